@@ -13,7 +13,7 @@ use crate::stops::{Breakpoint, Change, Hit, Stops};
 use bstr::ByteSlice;
 use cpm_disk::Disk;
 use cpm_image::MemoryImage;
-use cpm_run::{BDOS, BIOS};
+use cpm_run::{BDOS, BIOS, bios_entry, is_finished};
 use debug_text::{put_word, shown_character};
 use std::alloc::{AllocError, Global};
 use z80_cpu::{Cpu, Memory};
@@ -43,6 +43,14 @@ fn instruction_size(memory: &Memory, address: u16) -> u16 {
     }
 }
 
+/// The number of the entry of the BIOS at an address, from 0, the cold start, to 16; `None` if there is none.
+fn entry_at(address: u16) -> Option<u8> {
+    if is_finished(address) {
+        return Some(u8::from(address != BIOS));
+    }
+    bios_entry(address)
+}
+
 /// The instruction at an address, as the disassembler writes it.
 fn instruction(
     alloc: Global,
@@ -54,8 +62,7 @@ fn instruction(
         let function = cpu.main.c;
         return format!(in alloc; "BDOS {function}");
     }
-    if address >= BIOS {
-        let entry = (address - BIOS) / 3;
+    if let Some(entry) = entry_at(address) {
         return format!(in alloc; "BIOS {entry}");
     }
     let bytes = four_bytes(memory, address);

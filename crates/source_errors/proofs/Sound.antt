@@ -17,7 +17,7 @@ use Rattle.asm_names.specs.Names.{defines, has_clash, names}
 use Rattle.asm_statements.specs.Program.Spelled.{IsLineOfText}
 use Rattle.asm_module.specs.declared.line_fault.LineFault.{LineFault}
 use Rattle.asm_module.specs.Reads.Read.{read_line, scanned_by, spelled_by}
-use Rattle.source_errors.specs.Counted.{Counted, after_colon, counted, counted_after, counts, counts_as, counts_by, name_alone, takens}
+use Rattle.source_errors.specs.Counted.{Counted, after_colon, lines_counted, counted_after, counts, counts_as, counts_by, defined_name_alone, takens}
 
 of_spelled : (r : Result Line StmtFault) (line : Line) → spelled_by r ≡ Ok line → r ≡ Ok line
 of_spelled (Ok l) line e = cc
@@ -54,8 +54,8 @@ first_text None None None of_a of_b of_c = tt
 
 counts_text : (before : List Taken) (l : Numbered) → IsTextIf (counts before l)
 counts_text before l =
-    first_text (counts_as before l.number l.text) (counts_as before l.number (name_alone l.text)) (counts_as before l.number (after_colon l.text))
-    (text_by before l.number l.text (read_line l.text) refl) (text_by before l.number (name_alone l.text) (read_line (name_alone l.text)) refl) (text_by before l.number (after_colon l.text) (read_line (after_colon l.text)) refl)
+    first_text (counts_as before l.number l.text) (counts_as before l.number (defined_name_alone l.text)) (counts_as before l.number (after_colon l.text))
+    (text_by before l.number l.text (read_line l.text) refl) (text_by before l.number (defined_name_alone l.text) (read_line (defined_name_alone l.text)) refl) (text_by before l.number (after_colon l.text) (read_line (after_colon l.text)) refl)
 
 abbrev counted_by : Numbered → Option Taken → List Counted
 counted_by l o = option_to_list (option_map (λ t. record { from = l; is_read = is_ok (read_line l.text); taken = t }) o)
@@ -67,8 +67,8 @@ all_by l (Some t) is = All-cons IsText t [] is (All-nil IsText)
 pub all_texts : (before : List Counted) (lines : List Numbered) → All IsText (takens before) → All IsText (takens (counted_after before lines))
 all_texts before [] are = are
 all_texts before (l ∷ lines) are =
-    all_texts (before ++ counted before l) lines
-    (subst (All IsText) (sym (map-append (λ c. c.taken) before (counted before l))) (All-append IsText (takens before) (takens (counted before l)) are (all_by l (counts (takens before) l) (counts_text (takens before) l))))
+    all_texts (before ++ lines_counted before l) lines
+    (subst (All IsText) (sym (map-append (λ c. c.taken) before (lines_counted before l))) (All-append IsText (takens before) (takens (lines_counted before l)) are (all_by l (counts (takens before) l) (counts_text (takens before) l))))
 
 one_at_most : (l : Numbered) (o : Option Taken) → length (counted_by l o) ≤ 1
 one_at_most l None = omega arith
@@ -77,7 +77,7 @@ one_at_most l (Some t) = omega arith
 pub no_more : (before : List Counted) (lines : List Numbered) → length (counted_after before lines) ≤ length before + length lines
 no_more before [] = omega arith
 no_more before (l ∷ lines) =
-    let le = no_more (before ++ counted before l) lines in
+    let le = no_more (before ++ lines_counted before l) lines in
     let one = one_at_most l (counts (takens before) l) in
-    let both = length-append before (counted before l) in
+    let both = length-append before (lines_counted before l) in
     omega (arith, le, one, both)

@@ -13,7 +13,7 @@ use Rattle.asm_module.specs.Reads.Read.{read_line}
 use Rattle.asm_module.specs.Whys.{line_why}
 use Rattle.asm_module.specs.declared.fault.Why.{Why}
 use Rattle.asm_module.specs.declared.line_fault.LineFault.{LineFault}
-use Rattle.source_errors.specs.Counted.{after_colon, counted, counted_after, counts, counts_as, counts_by, early, early_after, early_by, name_alone, takens}
+use Rattle.source_errors.specs.Counted.{after_colon, lines_counted, counted_after, counts, counts_as, counts_by, early, early_after, early_by, defined_name_alone, takens}
 use Rattle.source_errors.specs.Findings.{finding_of, name_told}
 use Rattle.source_errors.specs.declared.counting.Counting.{Counting}
 use Rattle.source_errors.specs.declared.counting.Origin.{Origin}
@@ -74,11 +74,11 @@ takes_itself old new l line was read once added = record {
   itself : counts_as (takens (counted_in old)) l.number l.text ≡ Some (record { number = l.number; line = line })
   itself = ap (counts_by (takens (counted_in old)) l.number) read ∙ ap (λ b. cond b None (Some (record { number = l.number; line = line }))) once_before
 
-  counts_itself : counted (counted_in old) l ≡ record { from = l; is_read = true; taken = record { number = l.number; line = line } } ∷ []
+  counts_itself : lines_counted (counted_in old) l ≡ record { from = l; is_read = true; taken = record { number = l.number; line = line } } ∷ []
   counts_itself =
       ap (λ r. option_to_list (option_map (λ t. record { from = l; is_read = is_ok r; taken = t }) (counts (takens (counted_in old)) l))) read
       ∙ ap (λ o. option_to_list (option_map (λ t. record { from = l; is_read = true; taken = t })
-      (first (o ∷ counts_as (takens (counted_in old)) l.number (name_alone l.text) ∷ counts_as (takens (counted_in old)) l.number (after_colon l.text) ∷ [])))) itself
+      (first (o ∷ counts_as (takens (counted_in old)) l.number (defined_name_alone l.text) ∷ counts_as (takens (counted_in old)) l.number (after_colon l.text) ∷ [])))) itself
 
   no_error : early (takens (counted_in old)) l ≡ None
   no_error = ap (early_by (takens (counted_in old)) l) read ∙ ap (λ b. cond b (Some (record { line = l; why = Why.Duplicate; name = None })) None) once_before
@@ -86,7 +86,7 @@ takes_itself old new l line was read once added = record {
 -- The line has an error, and counts as another one.
 module _ (old new : Counting) (l : Numbered) (was : IsCounting old) where
   instead : Option Taken
-  instead = first (counts_as (lines_of old.lines.items) l.number (name_alone l.text) ∷ counts_as (lines_of old.lines.items) l.number (after_colon l.text) ∷ [])
+  instead = first (counts_as (lines_of old.lines.items) l.number (defined_name_alone l.text) ∷ counts_as (lines_of old.lines.items) l.number (after_colon l.text) ∷ [])
 
   -- the same, given that the line itself does not count
   takes_instead : (why : Why) (is_read : Bool) → Refuses l why None is_read old new → is_ok (read_line l.text) ≡ is_read → counts_as (takens (counted_in old)) l.number l.text ≡ None
@@ -96,14 +96,14 @@ module _ (old new : Counting) (l : Numbered) (was : IsCounting old) where
     lines = refused.lines ∙ ap (λ more. counted_in old ++ more) (sym counts_instead);
     findings = refused.findings ∙ ap (λ f. map finding_of old.findings.items ++ option_to_list f) (sym error);
   } where
-    counts_instead : counted (counted_in old) l ≡ option_to_list (option_map (λ t. record { from = l; is_read = is_read; taken = t })
-        (first (counts_as (lines_of old.lines.items) l.number (name_alone l.text) ∷ counts_as (lines_of old.lines.items) l.number (after_colon l.text) ∷ [])))
+    counts_instead : lines_counted (counted_in old) l ≡ option_to_list (option_map (λ t. record { from = l; is_read = is_read; taken = t })
+        (first (counts_as (lines_of old.lines.items) l.number (defined_name_alone l.text) ∷ counts_as (lines_of old.lines.items) l.number (after_colon l.text) ∷ [])))
     counts_instead =
         ap (λ b. option_to_list (option_map (λ t. record { from = l; is_read = b; taken = t }) (counts (takens (counted_in old)) l))) read
         ∙ ap (λ o. option_to_list (option_map (λ t. record { from = l; is_read = is_read; taken = t })
-        (first (o ∷ counts_as (takens (counted_in old)) l.number (name_alone l.text) ∷ counts_as (takens (counted_in old)) l.number (after_colon l.text) ∷ [])))) not_itself
+        (first (o ∷ counts_as (takens (counted_in old)) l.number (defined_name_alone l.text) ∷ counts_as (takens (counted_in old)) l.number (after_colon l.text) ∷ [])))) not_itself
         ∙ ap (λ ls. option_to_list (option_map (λ t. record { from = l; is_read = is_read; taken = t })
-        (first (counts_as ls l.number (name_alone l.text) ∷ counts_as ls l.number (after_colon l.text) ∷ [])))) (before_is old was)
+        (first (counts_as ls l.number (defined_name_alone l.text) ∷ counts_as ls l.number (after_colon l.text) ∷ [])))) (before_is old was)
 
   pub takes_unread : (why : LineFault) → read_line l.text ≡ Err why → Refuses l (line_why why) None false old new → Takes l old new
   takes_unread why read refused =
@@ -143,7 +143,7 @@ goes_on old new l rest all takes was = record {
   findings =
       ap (λ fs. fs ++ early_after (counted_in new) rest) takes.findings
       ∙ ap (λ cs. (map finding_of old.findings.items ++ option_to_list (early (takens (counted_in old)) l)) ++ early_after cs rest) takes.lines
-      ∙ append_assoc (map finding_of old.findings.items) (option_to_list (early (takens (counted_in old)) l)) (early_after (counted_in old ++ counted (counted_in old) l) rest)
+      ∙ append_assoc (map finding_of old.findings.items) (option_to_list (early (takens (counted_in old)) l)) (early_after (counted_in old ++ lines_counted (counted_in old) l) rest)
       ∙ was.findings;
 }
 

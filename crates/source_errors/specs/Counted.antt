@@ -20,8 +20,8 @@ alone_by label (Equ name) = name ++ codes " EQU " ++ name
 alone_by (Some name) head = name ++ codes ":"
 alone_by None head = []
 
-abbrev pub name_alone : List ℕ → List ℕ
-name_alone text = alone_by (form_of text).label (form_of text).head
+abbrev pub defined_name_alone : List ℕ → List ℕ
+defined_name_alone text = alone_by (form_of text).label (form_of text).head
 
 -- what comes after the first colon of a line
 abbrev pub after_colon : List ℕ → List ℕ
@@ -29,7 +29,7 @@ after_colon text = drop (prefix_len (λ byte. not (byte == 58)) text + 1) text
 
 -- The texts as which a line may count: itself, the name that it defines alone, or what comes after its label.
 abbrev pub candidates : List ℕ → List (List ℕ)
-candidates text = text ∷ name_alone text ∷ after_colon text ∷ []
+candidates text = text ∷ defined_name_alone text ∷ after_colon text ∷ []
 
 -- the line as which a text counts after other lines, if it can be parsed and defines no name again
 abbrev pub counts_by : List Taken → ℕ → Result Line LineFault → Option Taken
@@ -52,13 +52,13 @@ pub record Counted : Type 0 where
 abbrev pub takens : List Counted → List Taken
 takens lines = map (λ c. c.taken) lines
 
-abbrev pub counted : List Counted → Numbered → List Counted
-counted before l = option_to_list (option_map (λ t. record { from = l; is_read = is_ok (read_line l.text); taken = t }) (counts (takens before) l))
+abbrev pub lines_counted : List Counted → Numbered → List Counted
+lines_counted before l = option_to_list (option_map (λ t. record { from = l; is_read = is_ok (read_line l.text); taken = t }) (counts (takens before) l))
 
 -- the lines, each as it counts after those before it
 abbrev pub counted_after : List Counted → List Numbered → List Counted
 counted_after before [] = before
-counted_after before (l ∷ ls) = counted_after (before ++ counted before l) ls
+counted_after before (l ∷ ls) = counted_after (before ++ lines_counted before l) ls
 
 -- The error of a line by itself, given those before it: it cannot be parsed, or it defines a name again.
 abbrev pub early_by : List Taken → Numbered → Result Line LineFault → Option Finding
@@ -74,4 +74,4 @@ early before l = early_by before l (read_line l.text)
 -- the errors of lines by themselves, each given those before it
 abbrev pub early_after : List Counted → List Numbered → List Finding
 early_after before [] = []
-early_after before (l ∷ ls) = option_to_list (early (takens before) l) ++ early_after (before ++ counted before l) ls
+early_after before (l ∷ ls) = option_to_list (early (takens before) l) ++ early_after (before ++ lines_counted before l) ls

@@ -16,7 +16,7 @@ use Rattle.asm_statements.specs.declared.outlining.Outline.{Outline}
 use Rattle.asm_statements.specs.Outlines.{IsOutline}
 use Rattle.asm_module.specs.Whys.{macro_why, name_why}
 use Rattle.asm_module.specs.declared.fault.Why.{Why}
-use Rattle.source_errors.specs.Counted.{counted_after, early_after, name_alone, takens}
+use Rattle.source_errors.specs.Counted.{counted_after, early_after, defined_name_alone, takens}
 use Rattle.source_errors.specs.Findings.{Finding}
 use Rattle.source_errors.specs.Judged.{late_errors}
 
@@ -52,7 +52,7 @@ front zero line = []
 front (suc k) line = if is_none (scan_fault (take (suc k) line)) then take (suc k) line else front k line
 
 abbrev pub mended : List ℕ → List ℕ
-mended line = if is_none (scan_fault line) then line else name_alone (front (length line) line)
+mended line = if is_none (scan_fault line) then line else defined_name_alone (front (length line) line)
 
 abbrev pub mended_text : List ℕ → List ℕ
 mended_text text = flat_map (λ line. mended line ++ 10 ∷ []) (source_lines text)

@@ -3,7 +3,7 @@
 ghost use Rattle.std.specs.Prelude.{◌≡◌, ◌++◌, ◌==◌, ◌≤◌, IfOk, codes, length, not};
 ghost use Rattle.std.specs.List.{prefix_len};
 ghost use Rattle.asm_line.specs.Views.{form_seen};
-ghost use Rattle.source_errors.specs.Counted.{after_colon, alone_by, name_alone};
+ghost use Rattle.source_errors.specs.Counted.{after_colon, alone_by, defined_name_alone};
 
 use asm_line::{Form, Head, form_of};
 use asm_scan::{ScanFault, tokens};
@@ -39,8 +39,8 @@ fn alone(alloc: Global, form: Form<'_>) -> Result<Vec<u8>, AllocError>
 }
 
 /// Answers the line of only the name that a line defines, or an empty one.
-pub(crate) fn name_alone(alloc: Global, text: &[u8]) -> Result<Vec<u8>, AllocError>
-    ensures { IfOk result (λ alone. alone.items ≡ name_alone text.now) }
+pub(crate) fn defined_name_alone(alloc: Global, text: &[u8]) -> Result<Vec<u8>, AllocError>
+    ensures { IfOk result (λ alone. alone.items ≡ defined_name_alone text.now) }
 {
     match tokens(alloc, text) {
         Ok(found) => alone(alloc, form_of(&found)),

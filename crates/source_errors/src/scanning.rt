@@ -9,7 +9,7 @@ ghost use Rattle.source_errors.specs.Findings.{finding_of};
 ghost use Rattle.source_errors.specs.Found.{front, mended, mended_text, scan_error, scan_errors, scan_fault};
 
 use crate::finding::Finding;
-use crate::mending::name_alone;
+use crate::mending::defined_name_alone;
 use asm_macro::{ExpandedLine, MacroFault, source_part};
 use asm_module::Why;
 use asm_scan::{ScanFault, tokens};
@@ -49,7 +49,7 @@ fn put_mended(alloc: Global, line: &[u8], text: &mut Vec<u8>) -> Result<(), Allo
     if fault_of(alloc, line)?.is_none() {
         text.extend_from_slice(line)?;
     } else {
-        text.extend_from_slice(&name_alone(alloc, front(alloc, line)?)?)?;
+        text.extend_from_slice(&defined_name_alone(alloc, front(alloc, line)?)?)?;
     }
     text.push(b'\n')?;
     Ok(())

@@ -14,7 +14,7 @@ use Rattle.z80dev_make.specs.Warned.{found_unless, joined}
 use Rattle.z80dev_make.specs.declared.answer.SourceFile.{SourceFile}
 use Rattle.z80dev_explain.specs.declared.report.Explained.{Explained}
 use Rattle.z80dev_explain.specs.declared.report.Report.{Report}
-use Rattle.z80dev_explain.specs.Reports.{is_of}
+use Rattle.z80dev_explain.specs.Reports.{is_report_of}
 
 -- how many warnings there are about the jumps of a program
 abbrev pub warning_count : Built → ℕ
@@ -22,10 +22,10 @@ warning_count built = let modules = map module_of built.modules.items in length 
 
 -- The reports for what building answers: a report for each warning about a jump; or errors, among them the one for which building refuses a
 -- source.
-abbrev pub Reports : Result Built BuildFault → List Report → Type 0
-Reports (Ok built) reports = length reports ≡ warning_count built
-Reports (Err (build.Asm source fault)) reports = list_any (is_of source fault) reports ≡ true
-Reports (Err (build.Link fault)) reports = 0 < length reports
+abbrev pub AreReports : Result Built BuildFault → List Report → Type 0
+AreReports (Ok built) reports = length reports ≡ warning_count built
+AreReports (Err (build.Asm source fault)) reports = list_any (is_report_of source fault) reports ≡ true
+AreReports (Err (build.Link fault)) reports = 0 < length reports
 
 -- What is said of sources, given what building them answers.
 pub record IsExplained (grow : Bool) (files : List SourceFile) (has_program : Bool) (reports : List Report) : Type 0 where
@@ -34,4 +34,4 @@ pub record IsExplained (grow : Bool) (files : List SourceFile) (has_program : Bo
   pub building : Result Built BuildFault
   pub built : IsBuilt grow sources building
   pub program : has_program ≡ is_ok building
-  pub reported : Reports building reports
+  pub reported : AreReports building reports

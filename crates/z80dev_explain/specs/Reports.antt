@@ -13,9 +13,9 @@ is_error Severity.Error = true
 is_error Severity.Warning = false
 
 -- the place is in this line of the source with this number
-abbrev pub is_at : ℕ → ℕ → Option Where → Bool
-is_at source line at = option_map_or (λ w. (w.source == source) && (w.line == line)) at false
+abbrev pub is_in_line : ℕ → ℕ → Option Where → Bool
+is_in_line source line at = option_map_or (λ w. (w.source == source) && (w.line == line)) at false
 
 -- the report is of this error of the source with this number: of its line, by its name
-abbrev pub is_of : ℕ → AsmFault → Report → Bool
-is_of source fault r = is_error r.severity && (is_at source fault.line r.at && bytes_eq (string_bytes r.name) (why_name fault.why))
+abbrev pub is_report_of : ℕ → AsmFault → Report → Bool
+is_report_of source fault r = is_error r.severity && (is_in_line source fault.line r.at && bytes_eq (string_bytes r.name) (why_name fault.why))

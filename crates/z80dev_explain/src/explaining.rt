@@ -6,7 +6,7 @@ ghost use Rattle.zmo_module.specs.Modules.{module_of};
 ghost use Rattle.zmo_module.specs.Rules.{IsModule};
 ghost use Rattle.z80dev_make.specs.Answers.{IsSource};
 ghost use Rattle.z80dev_explain.specs.Explained.{IsExplained};
-ghost use Rattle.z80dev_explain.specs.Reports.{is_at, is_error, is_of};
+ghost use Rattle.z80dev_explain.specs.Reports.{is_in_line, is_error, is_report_of};
 
 use crate::linking::{put_link_errors, put_plain};
 use crate::report::{Explained, Report, Severity, Where};
@@ -32,8 +32,8 @@ fn sources_of<'a>(alloc: Global, files: &[SourceFile<'a>]) -> Result<Vec<Source<
 }
 
 /// Whether a place is in this line of the source with this number.
-fn is_at(at: Option<&Where<'_>>, source: usize, line: u32) -> bool
-    ensures { result ≡ is_at source line (option_copied at.entry) }
+fn is_in_line(at: Option<&Where<'_>>, source: usize, line: u32) -> bool
+    ensures { result ≡ is_in_line source line (option_copied at.entry) }
 {
     match at {
         Some(at) => at.source == source && at.line == line,
@@ -42,19 +42,21 @@ fn is_at(at: Option<&Where<'_>>, source: usize, line: u32) -> bool
 }
 
 /// Whether a report is of this error.
-fn is_of(report: &Report<'_>, source: usize, fault: AsmFault) -> bool
-    ensures { result ≡ is_of source fault report.now }
+fn is_report_of(report: &Report<'_>, source: usize, fault: AsmFault) -> bool
+    ensures { result ≡ is_report_of source fault report.now }
 {
     report.severity == Severity::Error
-        && is_at(report.at.as_ref(), source, fault.line)
+        && is_in_line(report.at.as_ref(), source, fault.line)
         && report.name.as_bytes() == why_name(fault.why).as_bytes()
 }
 
 /// Whether one of the reports is of this error.
 fn has(reports: &[Report<'_>], source: usize, fault: AsmFault) -> bool
-    ensures { result ≡ list_any (is_of source fault) reports.now }
+    ensures { result ≡ list_any (is_report_of source fault) reports.now }
 {
-    reports.iter().any(|report| is_of(report, source, fault))
+    reports
+        .iter()
+        .any(|report| is_report_of(report, source, fault))
 }
 
 /// By what reports are sorted: the source and the line.
@@ -82,7 +84,7 @@ fn errors_of<'a>(
     source: usize,
     fault: AsmFault,
 ) -> Result<Vec<Report<'a>>, AllocError>
-    ensures { IfOk result (λ reports. list_any (is_of source fault) reports.items ≡ true) }
+    ensures { IfOk result (λ reports. list_any (is_report_of source fault) reports.items ≡ true) }
 {
     let mut reports = Vec::new(alloc);
     for (number, file) in files.iter().enumerate() {

@@ -2,7 +2,7 @@
 
 ghost use Rattle.std.specs.Prelude.{◌≡◌, IfOk, OnOk, true};
 ghost use Rattle.std.specs.List.{list_any};
-ghost use Rattle.z80dev_explain.specs.Reports.{is_of};
+ghost use Rattle.z80dev_explain.specs.Reports.{is_report_of};
 
 use crate::joined::text_of;
 use crate::report::{Report, Severity, Where};
@@ -20,7 +20,7 @@ fn report_of<'a>(
     finding: Finding,
     known: Option<&Known>,
 ) -> Result<Report<'a>, AllocError>
-    ensures { IfOk result (λ r. is_of source (record { line = finding.number; why = finding.why }) r ≡ true) }
+    ensures { IfOk result (λ r. is_report_of source (record { line = finding.number; why = finding.why }) r ≡ true) }
 {
     let message = message(alloc, file.text, &finding, known)?;
     Ok(Report {
@@ -61,7 +61,7 @@ pub(crate) fn put_alone<'a>(
     fault: AsmFault,
     reports: &mut Vec<Report<'a>>,
 ) -> Result<(), AllocError>
-    ensures { OnOk result (list_any (is_of source fault) reports.new.items ≡ true) }
+    ensures { OnOk result (list_any (is_report_of source fault) reports.new.items ≡ true) }
 {
     let (path, text): (&'a str, &[u8]) = match files.get(source) {
         Some(file) => (file.path, file.text),

@@ -19,7 +19,7 @@ use Rattle.asm_module.specs.declared.fault.Why.{Why}
 use Rattle.asm_module.specs.declared.line_fault.LineFault.{LineFault}
 use Rattle.source_errors.specs.declared.counting.Counting.{Counting}
 use Rattle.source_errors.specs.declared.counting.Origin.{Origin}
-use Rattle.source_errors.specs.Counted.{Counted, after_colon, counted, counts_as, early, name_alone, takens}
+use Rattle.source_errors.specs.Counted.{Counted, after_colon, lines_counted, counts_as, early, defined_name_alone, takens}
 use Rattle.source_errors.specs.Findings.{finding_of}
 
 -- what a line parses as, in the terms of the definitions
@@ -70,7 +70,7 @@ numbered_of l = record { number = l.number; text = l.text.items }
 -- A line was taken: it counts as it does after those before it, and its error was kept.
 pub record Takes (l : Numbered) (old new : Counting) : Type 0 where
   pub sound : IsCounting new
-  pub lines : counted_in new ≡ counted_in old ++ counted (counted_in old) l
+  pub lines : counted_in new ≡ counted_in old ++ lines_counted (counted_in old) l
   pub findings : map finding_of new.findings.items ≡ map finding_of old.findings.items ++ option_to_list (early (takens (counted_in old)) l)
 
 -- A line was appended as which this one counts, if there is one.
@@ -83,7 +83,7 @@ pub record Appends (from : Numbered) (is_read : Bool) (taken : Option Taken) (ol
 pub record Refuses (l : Numbered) (why : Why) (name : Option (List ℕ)) (is_read : Bool) (old new : Counting) : Type 0 where
   pub sound : IsCounting new
   pub lines : counted_in new ≡ counted_in old ++ option_to_list (option_map (λ t. record { from = l; is_read = is_read; taken = t })
-      (first (counts_as (lines_of old.lines.items) l.number (name_alone l.text) ∷ counts_as (lines_of old.lines.items) l.number (after_colon l.text) ∷ [])))
+      (first (counts_as (lines_of old.lines.items) l.number (defined_name_alone l.text) ∷ counts_as (lines_of old.lines.items) l.number (after_colon l.text) ∷ [])))
   pub findings : map finding_of new.findings.items ≡ map finding_of old.findings.items ++ record { line = l; why = why; name = name } ∷ []
 
 -- an error of a name as one of a source; None if memory ran out
