@@ -9,7 +9,7 @@ use Rattle.z80dev_commands.specs.Commands.{HasRightCount, IsDiskJobOf, IsJob, Is
 use Rattle.z80dev_commands.specs.declared.job.DiskJob.{DiskJob}
 use Rattle.z80dev_commands.specs.declared.job.DiskJob.TheVariants as on
 use Rattle.z80dev_commands.specs.declared.job.Job.{Job}
-use Rattle.z80dev_commands.specs.declared.job.Job.TheVariants.{Pipe, Asm, Link, Build, Check, Dis, Disk, Run, Debug}
+use Rattle.z80dev_commands.specs.declared.job.Job.TheVariants.{Pipe, Asm, Link, Build, Explain, Check, Dis, Disk, Run, Debug}
 use Rattle.z80dev_jobs.specs.Command.{AsksToShow, CommandEnds, IsUsageFault, Untouched}
 use Rattle.z80dev_jobs.specs.Private.Steps.{HasJobUser, HasUser, RefusesError}
 use Rattle.z80dev_jobs.specs.Words.{AreTexts}
@@ -68,6 +68,7 @@ has_user texts Pipe is = tt
 has_user texts (Asm asm) is = tt
 has_user texts (Link link) is = tt
 has_user texts (Build build) is = tt
+has_user texts (Explain explain) is = tt
 has_user texts (Check check) is = tt
 has_user texts (Dis dis) is = tt
 has_user texts (Run run) is = tt

@@ -94,13 +94,13 @@ abbrev pub jump_over_text : List ShownSource → Site → List ℕ
 jump_over_text sources jump = codes " depends on the length of a jump at " ++ site_text sources jump ++ codes ": write " ++ fixed_text sources jump ++ codes " there to keep 3 bytes"
 
 -- what a warning about a jump says that only a computed jump reaches
-abbrev pub entry_warning_text : List ShownSource → Site → List ℕ
-entry_warning_text sources at = codes "only a computed jump reaches this jump, whose length may change: write " ++ fixed_text sources at ++ codes " to keep 3 bytes"
+abbrev pub computed_jump_text : List ShownSource → Site → List ℕ
+computed_jump_text sources at = codes "only a computed jump reaches this jump, whose length may change: write " ++ fixed_text sources at ++ codes " to keep 3 bytes"
 
 -- what a warning says
 abbrev pub warning_message : List ShownSource → Warning → List ℕ
 warning_message sources (warning.Over at offset jump) = shown_offset_text sources at offset ++ jump_over_text sources jump
-warning_message sources (warning.Entry at) = entry_warning_text sources at
+warning_message sources (warning.Entry at) = computed_jump_text sources at
 
 -- the statement that a warning is about
 abbrev pub site_of : Warning → Site

@@ -5,7 +5,7 @@ ghost use Rattle.std.specs.List.{flat_map};
 ghost use Rattle.std.specs.Option.{option_map_or};
 ghost use Rattle.zmo_module.specs.Modules.{module_of, statement_of};
 ghost use Rattle.z80dev_make.specs.Private.Shown.{shown_of};
-ghost use Rattle.z80dev_make.specs.Warned.{condition_text, entry_warning_text, external_name, fixed_jump, fixed_text, label_name_at, more_text, shown_name, shown_offset_text, jump_over_text, place_in, site_text, reference_name, signed_text, site_of, jump_warning_lines, warning_message, warning_text};
+ghost use Rattle.z80dev_make.specs.Warned.{computed_jump_text, condition_text, external_name, fixed_jump, fixed_text, label_name_at, more_text, shown_name, shown_offset_text, jump_over_text, place_in, site_text, reference_name, signed_text, site_of, jump_warning_lines, warning_message, warning_text};
 
 use asm_module::Module;
 use jump_warnings::{Offset, Site, Warning};
@@ -238,7 +238,7 @@ fn put_jump_over(
 
 /// Appends what a warning about a jump says that only a computed jump reaches.
 fn put_entry(out: &mut Vec<u8>, sources: &[Shown<'_>], site: Site) -> Result<(), AllocError>
-    ensures { OnOk result (out.new.items ≡ out.old.items ++ entry_warning_text (map shown_of sources.now) site) }
+    ensures { OnOk result (out.new.items ≡ out.old.items ++ computed_jump_text (map shown_of sources.now) site) }
 {
     put(
         out,
