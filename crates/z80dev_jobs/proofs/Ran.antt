@@ -1,12 +1,13 @@
 -- How `run` ends.
-use Rattle.std.proofs.Common.{◌≡◌, ℕ, IfSome, List, Option, None, Some, Ok, map, refl, subst, sym, unwrap_or}
+use Rattle.std.proofs.Common.{◌≡◌, ℕ, IfSome, List, Option, None, Some, Ok, Err, false, true, map, refl, subst, sym, unwrap_or}
 use Rattle.cpm_run.specs.declared.ending.Why.{Why}
 use Rattle.streams.specs.Stream.{Stream}
 use Rattle.z80dev_commands.specs.declared.job.Run.{Run}
 use Rattle.z80dev_finish.specs.Files.{Folder}
+use Rattle.z80dev_finish.specs.declared.end.End.{End}
 use Rattle.z80dev_jobs.specs.Private.Steps.{MayTell}
 use Rattle.z80dev_jobs.specs.Reading.{bytes_in}
-use Rattle.z80dev_jobs.specs.Running.{EndsRun, RunEnds, RunEndsUnless, RunEndsWith, Runs, default_steps}
+use Rattle.z80dev_jobs.specs.Running.{EndsBefore, EndsRun, RunEnds, RunEndsUnless, RunEndsWith, Runs, default_steps}
 use Rattle.z80dev_jobs.specs.Telling.{IsToldRun, why_not_told}
 use Rattle.z80dev_jobs.specs.World.{World}
 use Rattle.z80dev_jobs.specs.declared.running.Inputs.{Inputs}
@@ -21,6 +22,16 @@ no_reason (Some why) done may = absurd may
 -- a run that may tell what it is asked for
 pub may_tell : (run : Run) (old new : World) (status : ℕ) (done : Unit {0}) → MayTell (why_not_told run) (Ok done) → RunEndsWith run old new status → RunEnds run old new status
 may_tell run old new status done may is = subst (λ why. RunEndsUnless why run old new status) (sym (no_reason (why_not_told run) done may)) is
+
+refuses : (why : Option (List ℕ)) (run : Run) (old new : World) (status : ℕ) (e : End)
+    → MayTell why (Err e) → new.folder ≡ old.folder → new.input ≡ old.input → EndsBefore e old new status → RunEndsUnless why run old new status
+refuses None run old new status e may folder input ends = absurd (let no : false ≡ true = may in cc)
+refuses (Some why) run old new status e may folder input ends = (e, may, folder, input, ends)
+
+-- a run that may not tell what it is asked for
+pub may_not_tell : (run : Run) (old new : World) (status : ℕ) (e : End)
+    → MayTell (why_not_told run) (Err e) → new.folder ≡ old.folder → new.input ≡ old.input → EndsBefore e old new status → RunEnds run old new status
+may_not_tell run = refuses (why_not_told run) run
 
 pub runs : (run : Run) (known : Known) (inputs : Inputs) (claimed : Folder) (old new : World) (status : ℕ) (words : List (List ℕ)) (steps : ℕ) (listing : Option (List ℕ))
     (end : Why) (turns pc : ℕ) (image : List ℕ) (printed : Stream) (told : Option Told)

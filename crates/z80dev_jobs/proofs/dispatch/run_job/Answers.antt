@@ -1,9 +1,14 @@
 use Rattle.std.proofs.Common.{ap, inl, inr, map, refl}
 use Rattle.std.specs.List.{concat}
-use Rattle.z80dev_jobs.proofs.Ran.{may_tell, runs}
+use Rattle.z80dev_jobs.proofs.Ran.{may_not_tell, may_tell, runs}
 use Rattle.z80dev_jobs.specs.Reading.{reader_of}
 use Rattle.z80dev_jobs.specs.World.{world_of}
 use Rattle.z80dev_jobs.proofs.dispatch.run_job.Goals as goal
+
+pub returns-in-Err-clause-ends : goal.returns-in-Err-clause-ends
+returns-in-Err-clause-ends g c =
+    let told = c.report-status.ensures in
+    may_not_tell c.args.job.now _ _ c.report-status.result c.in-Err.end c.in-Err.ensures refl refl (refl, told.status, told.told)
 
 pub returns-in-Err-inputs_of-clause-ends : goal.returns-in-Err-inputs_of-clause-ends
 returns-in-Err-inputs_of-clause-ends g c =
