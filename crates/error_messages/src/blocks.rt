@@ -29,7 +29,7 @@ fn owned(alloc: Global, text: &str) -> Result<String, AllocError> {
     String::from_str(alloc, text)
 }
 
-/// What is said of a block without its end.
+/// The message about a block without its end.
 pub(crate) fn unclosed(case: &Case<'_>) -> Result<Draft, AllocError> {
     let alloc = case.alloc;
     let (word, end) = match case.form.head {
@@ -51,7 +51,7 @@ pub(crate) fn unclosed(case: &Case<'_>) -> Result<Draft, AllocError> {
     )?)
 }
 
-/// What is said of a word that closes or divides a block that is not open.
+/// The message about a word that closes or divides a block that is not open.
 fn closes_none(
     case: &Case<'_>,
     word: &str,
@@ -77,7 +77,7 @@ fn closes_none(
     }
 }
 
-/// What is said of a block word in the wrong place.
+/// The message about a block word in the wrong place.
 fn stray_block(case: &Case<'_>, block: BlockWord) -> Result<Draft, AllocError> {
     let alloc = case.alloc;
     let word = block_text(block);
@@ -131,7 +131,7 @@ fn are_parameters(case: &Case<'_>) -> bool {
     true
 }
 
-/// What is said of a line that cannot begin a macro.
+/// The message about a line that cannot begin a macro.
 fn stray_macro(case: &Case<'_>, name: &[u8]) -> Result<Draft, AllocError> {
     let alloc = case.alloc;
     let upper = name.to_ascii_uppercase(alloc)?;
@@ -164,7 +164,7 @@ fn stray_macro(case: &Case<'_>, name: &[u8]) -> Result<Draft, AllocError> {
         .help(owned(alloc, "move the definition out")?)
 }
 
-/// What is said of a line of a block in the wrong place.
+/// The message about a line of a block in the wrong place.
 pub(crate) fn stray(case: &Case<'_>) -> Result<Draft, AllocError> {
     let alloc = case.alloc;
     match case.form.head {
@@ -181,7 +181,7 @@ pub(crate) fn stray(case: &Case<'_>) -> Result<Draft, AllocError> {
     }
 }
 
-/// What is said if calls are nested too deep.
+/// The message where calls are nested too deep.
 pub(crate) fn too_deep(case: &Case<'_>) -> Result<Draft, AllocError> {
     let alloc = case.alloc;
     let text = owned(alloc, "calls and repetitions are nested more than 16 deep")?;
@@ -189,7 +189,7 @@ pub(crate) fn too_deep(case: &Case<'_>) -> Result<Draft, AllocError> {
         .help(owned(alloc, "look for a macro that calls itself")?)
 }
 
-/// What is said if there are too many lines.
+/// The message where there are too many lines.
 pub(crate) fn too_many_lines(case: &Case<'_>) -> Result<Draft, AllocError> {
     let alloc = case.alloc;
     let text = owned(
@@ -202,7 +202,7 @@ pub(crate) fn too_many_lines(case: &Case<'_>) -> Result<Draft, AllocError> {
     )?)
 }
 
-/// What is said of a second macro of one name.
+/// The message about a second macro of one name.
 pub(crate) fn redefined(case: &Case<'_>) -> Result<Draft, AllocError> {
     let alloc = case.alloc;
     let Head::Macro(name) = case.form.head else {
@@ -246,7 +246,7 @@ fn is_equ_above(case: &Case<'_>, name: &[u8]) -> Result<bool, AllocError> {
     }
 }
 
-/// What is said of a condition or a count whose value is not known yet.
+/// The message about a condition or a count whose value is not known yet.
 pub(crate) fn condition_names_label(case: &Case<'_>) -> Result<Draft, AllocError> {
     let alloc = case.alloc;
     let at = unknown_in_condition(case)?;

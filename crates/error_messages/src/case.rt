@@ -40,7 +40,7 @@ impl<'a> Case<'a> {
         }
     }
 
-    /// A message about so many tokens from this one on.
+    /// A message about this number of tokens from this one on.
     pub(crate) fn draft(&self, at: usize, count: usize, text: String) -> Draft {
         Draft::new(self.alloc, Spot::Tokens(at, count), text)
     }
@@ -50,12 +50,12 @@ impl<'a> Case<'a> {
         self.draft(self.word_at(), 1, text)
     }
 
-    /// So many tokens from this one on, as they are shown in one line.
+    /// This number of tokens from this one on, as they are shown in one line.
     pub(crate) fn joined(&self, at: usize, count: usize) -> Result<String, AllocError> {
         crate::shown::joined(self.alloc, self.tokens_at(at, count))
     }
 
-    /// So many tokens from this one on, as far as there are any.
+    /// This number of tokens from this one on, as far as there are any.
     pub(crate) fn tokens_at(&self, at: usize, count: usize) -> &'a [Token<'a>] {
         let from = self.tokens.get(at..).unwrap_or(&[]);
         from.get(..count).unwrap_or(from)

@@ -6,9 +6,9 @@ use std::alloc::{AllocError, Global};
 /// What in its line an error is about.
 #[derive(Clone, Copy)]
 pub(crate) enum Spot {
-    /// So many tokens from this one on, counted from 0.
+    /// This number of tokens from this one on, counted from 0.
     Tokens(usize, usize),
-    /// So many bytes from this one on. Only for a line that cannot be cut into tokens.
+    /// This number of bytes from this one on. Only for a line that cannot be cut into tokens.
     Bytes(usize, usize),
 }
 

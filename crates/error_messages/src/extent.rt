@@ -46,7 +46,7 @@ fn token_len(bytes: &[u8]) -> usize {
     }
 }
 
-/// What has an error: so many bytes from this one on.
+/// What has an error: this number of bytes from this one on.
 #[derive(Clone, Copy)]
 pub(crate) struct Extent {
     pub(crate) at: usize,

@@ -121,7 +121,7 @@ fn has_second(mnemonic: Mnemonic, first: Form) -> bool {
     false
 }
 
-/// The forms that the first of so many operands of a mnemonic can have: of one operand or of two.
+/// The forms that the first of this number of operands of a mnemonic can have: of one operand or of two.
 pub(crate) fn firsts(
     alloc: Global,
     mnemonic: Mnemonic,
@@ -159,7 +159,7 @@ impl Counts {
         })
     }
 
-    /// Whether so many operands are among these.
+    /// Whether this number of operands is among these.
     pub(crate) fn has(self, count: usize) -> bool {
         match count {
             0 => self.none,

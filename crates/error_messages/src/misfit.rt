@@ -57,7 +57,7 @@ impl<'c, 'a> Misfit<'c, 'a> {
         }
     }
 
-    /// What is said if there are more operands than the mnemonic takes.
+    /// The message where there are more operands than the mnemonic takes.
     fn too_many(&self) -> Result<Draft, AllocError> {
         let alloc = self.case.alloc;
         let word = self.word;
@@ -102,7 +102,7 @@ impl<'c, 'a> Misfit<'c, 'a> {
         Ok(None)
     }
 
-    /// What is said if a condition is the only operand of a jump or a call.
+    /// The message where a condition is the only operand of a jump or a call.
     fn lone_condition(&self, name: Name) -> Result<Draft, AllocError> {
         let alloc = self.case.alloc;
         let word = self.word;
@@ -115,7 +115,7 @@ impl<'c, 'a> Misfit<'c, 'a> {
         )?)
     }
 
-    /// What is said if there are fewer operands than the mnemonic takes.
+    /// The message where there are fewer operands than the mnemonic takes.
     fn too_few(&self) -> Result<Draft, AllocError> {
         let alloc = self.case.alloc;
         let word = self.word;
@@ -177,7 +177,7 @@ impl<'c, 'a> Misfit<'c, 'a> {
         Ok(None)
     }
 
-    /// What is said if the second of two operands does not fit the first.
+    /// The message where the second of two operands does not fit the first.
     fn wrong_second(&self, forms: &[Form]) -> Result<Draft, AllocError> {
         let alloc = self.case.alloc;
         let word = self.word;
@@ -187,7 +187,7 @@ impl<'c, 'a> Misfit<'c, 'a> {
         self.on_operand(1, text).help_if(self.two_instead()?)
     }
 
-    /// What is said if the first operand does not fit.
+    /// The message where the first operand does not fit.
     fn wrong_first(&self) -> Result<Draft, AllocError> {
         let alloc = self.case.alloc;
         let word = self.word;
@@ -231,7 +231,7 @@ impl<'c, 'a> Misfit<'c, 'a> {
         Ok(None)
     }
 
-    /// What is said of the operands.
+    /// The message about the operands.
     fn told(&self) -> Result<Draft, AllocError> {
         let count = self.operands.len();
         if count > self.counts.most() {
@@ -269,7 +269,7 @@ fn directive_text(word: &str) -> &'static str {
     }
 }
 
-/// What is said of a directive whose operands do not fit.
+/// The message about a directive whose operands do not fit.
 fn directive(case: &Case<'_>, word: &str) -> Result<Draft, AllocError> {
     let alloc = case.alloc;
     if word == "EQU" {
@@ -286,7 +286,7 @@ fn directive(case: &Case<'_>, word: &str) -> Result<Draft, AllocError> {
     Ok(case.draft(case.rest_at(), count, text))
 }
 
-/// What is said of a word that does not take its operands.
+/// The message about a word that does not take its operands.
 pub(crate) fn wrong_operands(case: &Case<'_>) -> Result<Draft, AllocError> {
     let alloc = case.alloc;
     let upper = case.word().to_ascii_uppercase(alloc)?;

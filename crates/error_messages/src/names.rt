@@ -129,7 +129,7 @@ fn as_number(case: &Case<'_>, name: &[u8]) -> Result<Option<String>, AllocError>
     }
 }
 
-/// What is said of a name that is not defined.
+/// The message about a name that is not defined.
 pub(crate) fn undefined(case: &Case<'_>) -> Result<Draft, AllocError> {
     let alloc = case.alloc;
     let name = name_of(case)?;
@@ -166,7 +166,7 @@ fn is_expanded(case: &Case<'_>) -> bool {
     numbered(case.source, case.finding.number).trim() != case.finding.text.as_slice().trim()
 }
 
-/// What is said of a name that is defined twice.
+/// The message about a name that is defined twice.
 pub(crate) fn duplicate(case: &Case<'_>) -> Result<Draft, AllocError> {
     let alloc = case.alloc;
     let mut name = name_of(case)?;
@@ -194,7 +194,7 @@ pub(crate) fn duplicate(case: &Case<'_>) -> Result<Draft, AllocError> {
     draft.help(String::from_str(alloc, "rename one of the two")?)
 }
 
-/// What is said of a name of PUBLIC or END that is no label.
+/// The message about a name of PUBLIC or END that is no label.
 pub(crate) fn no_label(case: &Case<'_>) -> Result<Draft, AllocError> {
     let alloc = case.alloc;
     let name = name_of(case)?;
@@ -370,7 +370,7 @@ fn circle_text(case: &Case<'_>, known: &Known, lines: &[usize]) -> Result<String
     Ok(text)
 }
 
-/// What is said of an EQU line that leads back to itself.
+/// The message about an EQU line that leads back to itself.
 pub(crate) fn circle(case: &Case<'_>) -> Result<Draft, AllocError> {
     let alloc = case.alloc;
     let written = case.joined(0, 1)?;
@@ -399,7 +399,7 @@ pub(crate) fn circle(case: &Case<'_>) -> Result<Draft, AllocError> {
     draft.note(circle_text(case, known, &lines)?)?.help(help)
 }
 
-/// What is said of a reserved name where a name is defined or passed on.
+/// The message about a reserved name where a name is defined or passed on.
 pub(crate) fn reserved_name(case: &Case<'_>) -> Result<Draft, AllocError> {
     let alloc = case.alloc;
     let mut found = 0;
@@ -424,7 +424,7 @@ pub(crate) fn reserved_name(case: &Case<'_>) -> Result<Draft, AllocError> {
         .help(String::from_str(alloc, "rename it")?)
 }
 
-/// What is said of a statement too many.
+/// The message about a statement too many.
 pub(crate) fn too_many_statements(case: &Case<'_>) -> Result<Draft, AllocError> {
     let alloc = case.alloc;
     let text = String::from_str(alloc, "a module has at most 20,000 statements")?;
@@ -434,7 +434,7 @@ pub(crate) fn too_many_statements(case: &Case<'_>) -> Result<Draft, AllocError> 
     )?)
 }
 
-/// What is said of a name too many.
+/// The message about a name too many.
 pub(crate) fn too_many_names(case: &Case<'_>) -> Result<Draft, AllocError> {
     let alloc = case.alloc;
     let text = String::from_str(

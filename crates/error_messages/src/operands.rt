@@ -18,7 +18,7 @@ pub(crate) struct Operand<'a> {
 }
 
 impl<'a> Operand<'a> {
-    /// So many tokens of the operand from this one on, as far as there are any.
+    /// This number of tokens of the operand from this one on, as far as there are any.
     pub(crate) fn part(&self, from: usize, count: usize) -> Operand<'a> {
         let tail = self.tokens.get(from..).unwrap_or(&[]);
         Operand {

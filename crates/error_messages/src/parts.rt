@@ -1,6 +1,6 @@
 //! Messages about errors.
 
-/// Where in a line something is: so many bytes from this byte on, counted from 0.
+/// Where in a line something is: the first byte, counted from 0, and how many there are.
 #[derive(Clone, Copy, Debug, PartialEq, Eq)]
 pub struct Place {
     pub at: usize,

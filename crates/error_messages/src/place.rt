@@ -42,7 +42,7 @@ fn end_after(line: &[u8], tokens: &[Token<'_>]) -> usize
     line.len().saturating_sub(behind(line, tokens).len())
 }
 
-/// The place of so many tokens of a line, from this one on.
+/// The place of this number of tokens of a line, from this one on.
 fn place_of_tokens(line: &[u8], tokens: &[Token<'_>], first: usize, count: usize) -> Place
     requires some { 0 < count }
     requires few { first + count ≤ length tokens.now }
@@ -55,7 +55,7 @@ fn place_of_tokens(line: &[u8], tokens: &[Token<'_>], first: usize, count: usize
     Place { at, len }
 }
 
-/// The place of so many bytes of a line, from this one on, as far as there are any.
+/// The place of this number of bytes of a line, from this one on, as far as there are any.
 fn place_of_bytes(line: &[u8], at: usize, len: usize) -> Place
     ensures { IsInLine line.now result }
 {

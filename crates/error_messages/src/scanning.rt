@@ -120,7 +120,7 @@ impl<'a> Uncut<'a> {
         }
     }
 
-    /// What is said of a number that is none.
+    /// The message about a number that is none.
     fn bad_number(&self) -> Result<Draft, AllocError> {
         let alloc = self.alloc;
         let token = shown(alloc, self.token)?;
@@ -144,7 +144,7 @@ impl<'a> Uncut<'a> {
         }
     }
 
-    /// What is said of a string without an end.
+    /// The message about a string without an end.
     fn open_string(&self) -> Result<Draft, AllocError> {
         let alloc = self.alloc;
         let text = String::from_str(alloc, "this string has no closing quote")?;
@@ -221,7 +221,7 @@ impl<'a> Uncut<'a> {
         String::from_str(alloc, "binary is written `101B`, remainder `MOD`")
     }
 
-    /// What is said of a byte that no token has.
+    /// The message about a byte that no token has.
     fn bad_byte(&self) -> Result<Draft, AllocError> {
         let alloc = self.alloc;
         let byte = self.token.first().copied().unwrap_or(0);
@@ -279,7 +279,7 @@ fn other_instead(byte: u8) -> &'static str {
     }
 }
 
-/// What is said of a line that is too long.
+/// The message about a line that is too long.
 pub(crate) fn too_long(alloc: Global, line: &[u8]) -> Result<Draft, AllocError> {
     let count = line.len();
     let text = format!(in alloc; "this line has {count} bytes, and a line has at most 255")?;
@@ -290,7 +290,7 @@ pub(crate) fn too_long(alloc: Global, line: &[u8]) -> Result<Draft, AllocError> 
     )?)
 }
 
-/// What is said of a line that cannot be cut into tokens.
+/// The message about a line that cannot be cut into tokens.
 pub(crate) fn unscanned(
     alloc: Global,
     line: &[u8],

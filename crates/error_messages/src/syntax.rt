@@ -68,7 +68,7 @@ fn takes_more(case: &Case<'_>, count: usize) -> Result<bool, AllocError> {
     }
 }
 
-/// What is said of a word or number directly after a complete operand.
+/// The message about a word or number directly after a complete operand.
 fn not_apart(case: &Case<'_>, count: usize, at: usize) -> Result<Draft, AllocError> {
     let alloc = case.alloc;
     let token = case.joined(at, 1)?;
@@ -95,7 +95,7 @@ fn characters(text: &[u8]) -> usize {
     inner.saturating_sub(quotes / 2)
 }
 
-/// What is said of a string in an expression that has not one character.
+/// The message about a string in an expression that has not one character.
 fn long_string(case: &Case<'_>, at: usize, text: &[u8]) -> Result<Draft, AllocError> {
     let alloc = case.alloc;
     let written = shown(alloc, text)?;
@@ -109,7 +109,7 @@ fn long_string(case: &Case<'_>, at: usize, text: &[u8]) -> Result<Draft, AllocEr
     )?)
 }
 
-/// What is said of a token that no expression can have there.
+/// The message about a token that no expression can have there.
 fn foreign(case: &Case<'_>, at: usize, token: &Token<'_>) -> Result<Draft, AllocError> {
     let alloc = case.alloc;
     let written = shown(alloc, token.text)?;
@@ -149,7 +149,7 @@ fn foreign(case: &Case<'_>, at: usize, token: &Token<'_>) -> Result<Draft, Alloc
     }
 }
 
-/// What is said of a hexadecimal number after `$`; None if it is none.
+/// The message about a hexadecimal number after `$`; None if it is none.
 fn after_dollar(
     case: &Case<'_>,
     at: usize,
@@ -169,7 +169,7 @@ fn after_dollar(
     Ok(Some(case.draft(at, 1, text).help(help)?))
 }
 
-/// What is said of a wrong token, given the tokens of its operand and its number among these.
+/// The message about a wrong token, given the tokens of its operand and its number among these.
 fn wrong(
     case: &Case<'_>,
     count: usize,
@@ -217,7 +217,7 @@ fn is_operator(case: &Case<'_>, token: &Token<'_>) -> Result<bool, AllocError> {
     }
 }
 
-/// What is said of an operand that ends too early.
+/// The message about an operand that ends too early.
 fn incomplete(case: &Case<'_>, part: &Operand<'_>) -> Result<Draft, AllocError> {
     let alloc = case.alloc;
     let Some(last) = part.tokens.last() else {
@@ -243,7 +243,7 @@ fn unopened(tokens: &[Token<'_>]) -> Option<usize> {
     None
 }
 
-/// What is said of the tokens of an expression, if they make none.
+/// The message about the tokens of an expression, if they make none.
 fn told(case: &Case<'_>, count: usize, part: &Operand<'_>) -> Result<Option<Draft>, AllocError> {
     let alloc = case.alloc;
     if is_expression(case, part.tokens)? {
@@ -288,7 +288,7 @@ fn expression_part<'a>(case: &Case<'a>, operand: &Operand<'a>) -> Option<Operand
     }
 }
 
-/// What is said of the first operand that is no expression; of the first string of more than one character, if `texts` are looked at too.
+/// The message about the first operand that is no expression; of the first string of more than one character, if `texts` are looked at too.
 fn first_told(case: &Case<'_>, texts: bool) -> Result<Option<Draft>, AllocError> {
     let found = operands(case)?;
     for operand in &found {
@@ -303,7 +303,7 @@ fn first_told(case: &Case<'_>, texts: bool) -> Result<Option<Draft>, AllocError>
     Ok(None)
 }
 
-/// What is said of a line with an operand that is no expression.
+/// The message about a line with an operand that is no expression.
 pub(crate) fn no_expression(case: &Case<'_>) -> Result<Draft, AllocError> {
     if let Some(draft) = first_told(case, false)? {
         return Ok(draft);

@@ -59,7 +59,7 @@ fn finished(
     })
 }
 
-/// What is said of a line's statement that has an error.
+/// The message about a line's statement that has an error.
 fn on_statement(case: &Case<'_>, why: StmtFault) -> Result<Draft, AllocError> {
     match why {
         StmtFault::UnknownWord => crate::words::unknown(case),
@@ -76,7 +76,7 @@ fn on_statement(case: &Case<'_>, why: StmtFault) -> Result<Draft, AllocError> {
     }
 }
 
-/// What is said of an expression that is none, or that has no value.
+/// The message about an expression that is none, or that has no value.
 fn on_expression(case: &Case<'_>, why: ExprFault) -> Result<Draft, AllocError> {
     match why {
         ExprFault::Syntax => crate::syntax::no_expression(case),
@@ -88,7 +88,7 @@ fn on_expression(case: &Case<'_>, why: ExprFault) -> Result<Draft, AllocError> {
     }
 }
 
-/// What is said of a line at which the expansion stops.
+/// The message about a line at which the expansion stops.
 fn on_expansion(case: &Case<'_>, why: MacroFault) -> Result<Draft, AllocError> {
     match why {
         MacroFault::Unclosed => blocks::unclosed(case),
@@ -106,7 +106,7 @@ fn on_expansion(case: &Case<'_>, why: MacroFault) -> Result<Draft, AllocError> {
     }
 }
 
-/// What is said of an error.
+/// The message about an error.
 fn drafted(case: &Case<'_>) -> Result<Draft, AllocError> {
     match case.finding.why {
         Why::Macro(why) => on_expansion(case, why),

@@ -147,7 +147,7 @@ fn value_text(case: &Case<'_>, value: u16) -> Result<String, AllocError> {
     format!(in alloc; "{value} (-{negative})")
 }
 
-/// What is said of a value that its field does not allow.
+/// The message about a value that its field does not allow.
 fn range_text(case: &Case<'_>, misfit: Misfit) -> Result<String, AllocError> {
     let alloc = case.alloc;
     let value = value_text(case, misfit.value)?;
@@ -184,7 +184,7 @@ fn range_help(case: &Case<'_>, misfit: Misfit) -> Result<Option<String>, AllocEr
     }
 }
 
-/// What is said of a value that does not fit.
+/// The message about a value that does not fit.
 pub(crate) fn out_of_range(case: &Case<'_>) -> Result<Draft, AllocError> {
     let alloc = case.alloc;
     let Some(misfit) = first_misfit(case)? else {
@@ -238,7 +238,7 @@ fn as_operand(case: &Case<'_>, part: Option<Operand<'_>>) -> Result<String, Allo
     }
 }
 
-/// What is said of a byte that is an address.
+/// The message about a byte that is an address.
 pub(crate) fn needs_low_or_high(case: &Case<'_>) -> Result<Draft, AllocError> {
     let alloc = case.alloc;
     let part = first_address(case)?;
@@ -255,7 +255,7 @@ pub(crate) fn needs_low_or_high(case: &Case<'_>) -> Result<Draft, AllocError> {
         )?)
 }
 
-/// What is said of a short jump whose target is no label.
+/// The message about a short jump whose target is no label.
 pub(crate) fn short_needs_label(case: &Case<'_>) -> Result<Draft, AllocError> {
     let alloc = case.alloc;
     let word = shown(alloc, case.word())?;
@@ -286,7 +286,7 @@ fn addresses_text(case: &Case<'_>, tokens: &[Token<'_>]) -> Result<String, Alloc
     Ok(text)
 }
 
-/// What is said of a size that depends on addresses.
+/// The message about a size that depends on addresses.
 pub(crate) fn size_varies(case: &Case<'_>) -> Result<Draft, AllocError> {
     let alloc = case.alloc;
     let part = expressions(case)?.first().copied();
@@ -304,7 +304,7 @@ pub(crate) fn size_varies(case: &Case<'_>) -> Result<Draft, AllocError> {
     )?)
 }
 
-/// What is said of an ORG.
+/// The message about an ORG.
 pub(crate) fn bad_origin(case: &Case<'_>) -> Result<Draft, AllocError> {
     let alloc = case.alloc;
     let part = expressions(case)?.first().copied();
@@ -328,7 +328,7 @@ pub(crate) fn bad_origin(case: &Case<'_>) -> Result<Draft, AllocError> {
     )?)
 }
 
-/// What is said of a number that has to be the same wherever the program is.
+/// The message about a number that has to be the same wherever the program is.
 pub(crate) fn needs_number(case: &Case<'_>) -> Result<Draft, AllocError> {
     let alloc = case.alloc;
     let part = first_address(case)?;
@@ -392,7 +392,7 @@ fn defined_text(case: &Case<'_>, tokens: &[Token<'_>]) -> Result<String, AllocEr
     }
 }
 
-/// What is said of a division by zero.
+/// The message about a division by zero.
 pub(crate) fn divides_by_zero(case: &Case<'_>) -> Result<Draft, AllocError> {
     let alloc = case.alloc;
     let Some((at, by)) = division(case, Worth::Number(0))? else {
@@ -405,7 +405,7 @@ pub(crate) fn divides_by_zero(case: &Case<'_>) -> Result<Draft, AllocError> {
     Ok(case.draft(at, 1, text))
 }
 
-/// What is said of a divisor that depends on addresses.
+/// The message about a divisor that depends on addresses.
 pub(crate) fn divisor_varies(case: &Case<'_>) -> Result<Draft, AllocError> {
     let alloc = case.alloc;
     let help = String::from_str(alloc, "write a number, or an EQU that is made from numbers")?;
@@ -420,7 +420,7 @@ pub(crate) fn divisor_varies(case: &Case<'_>) -> Result<Draft, AllocError> {
     case.draft(at, 1, text).help(help)
 }
 
-/// What is said of an expression with too many parentheses.
+/// The message about an expression with too many parentheses.
 pub(crate) fn too_deep(case: &Case<'_>) -> Result<Draft, AllocError> {
     let alloc = case.alloc;
     let text = String::from_str(
@@ -431,7 +431,7 @@ pub(crate) fn too_deep(case: &Case<'_>) -> Result<Draft, AllocError> {
         .help(String::from_str(alloc, "give a part a name by EQU")?)
 }
 
-/// What is said of an expression with too many terms.
+/// The message about an expression with too many terms.
 pub(crate) fn too_large(case: &Case<'_>) -> Result<Draft, AllocError> {
     let alloc = case.alloc;
     let text = String::from_str(

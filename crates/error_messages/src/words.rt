@@ -44,7 +44,7 @@ fn upper_text(alloc: Global, text: &[u8]) -> Result<String, AllocError> {
     shown(alloc, &upper)
 }
 
-/// What is said of the word, or of the word after it, if it belongs to another assembler.
+/// The message about the word, or of the word after it, if it belongs to another assembler.
 fn foreign(case: &Case<'_>, at: usize) -> Result<Option<Draft>, AllocError> {
     let alloc = case.alloc;
     let Some(token) = case.tokens.get(at) else {
@@ -82,7 +82,7 @@ fn foreign(case: &Case<'_>, at: usize) -> Result<Option<Draft>, AllocError> {
     }
 }
 
-/// What is said if the macro of this name is defined in a later line.
+/// The message where the macro of this name is defined in a later line.
 fn defined_later(case: &Case<'_>, word: &[u8], draft: Draft) -> Result<Option<Draft>, AllocError> {
     let alloc = case.alloc;
     match first_line(alloc, case.source, Wanted::Macro(word))? {
@@ -103,7 +103,7 @@ fn defined_later(case: &Case<'_>, word: &[u8], draft: Draft) -> Result<Option<Dr
     }
 }
 
-/// What is said if the word is a label without its colon.
+/// The message where the word is a label without its colon.
 fn as_label(case: &Case<'_>, draft: Draft) -> Result<Draft, AllocError> {
     let alloc = case.alloc;
     let word = shown(alloc, case.word())?;
@@ -118,7 +118,7 @@ fn as_label(case: &Case<'_>, draft: Draft) -> Result<Draft, AllocError> {
     draft.help(format!(in alloc; "a label ends with a colon: `{word}: {first}{blank}{others}`")?)
 }
 
-/// What is said of a word that belongs to no assembler that is known.
+/// The message about a word that belongs to no assembler that is known.
 fn nowhere(case: &Case<'_>) -> Result<Draft, AllocError> {
     let alloc = case.alloc;
     let word = shown(alloc, case.word())?;
@@ -150,7 +150,7 @@ fn nowhere(case: &Case<'_>) -> Result<Draft, AllocError> {
     }
 }
 
-/// What is said of a line that begins with something other than a name.
+/// The message about a line that begins with something other than a name.
 fn wordless(case: &Case<'_>) -> Result<Draft, AllocError> {
     let alloc = case.alloc;
     let first = case.joined(case.word_at(), 1)?;
@@ -185,7 +185,7 @@ fn wordless(case: &Case<'_>) -> Result<Draft, AllocError> {
     }
 }
 
-/// What is said of a line whose word is not known.
+/// The message about a line whose word is not known.
 pub(crate) fn unknown(case: &Case<'_>) -> Result<Draft, AllocError> {
     let Head::Word(word) = case.form.head else {
         return wordless(case);
