@@ -23,3 +23,7 @@ pub record IsKeptAtStop {S C : Type 0} (old new : System S C) (before now : List
   pub dma : new.dma ≡ old.dma
   pub user : new.user ≡ old.user
   pub search : new.search ≡ old.search
+
+-- the same system with this console
+abbrev pub with_console : {S C : Type 0} → C → System S C → System S C
+with_console console s = record s { terminal = record s.terminal { console = console } }

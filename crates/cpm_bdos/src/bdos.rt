@@ -79,6 +79,13 @@ impl<S: Sectors, C: Console> Bdos<S, C> {
         &self.terminal.console
     }
 
+    /// The column of the cursor.
+    pub fn column(&self) -> u16
+        ensures { result ≡ self.now.terminal.column }
+    {
+        self.terminal.column
+    }
+
     /// The address of the buffer that the next record is read to or written from.
     pub fn dma(&self) -> u16
         ensures { result ≡ self.now.dma }
@@ -272,5 +279,29 @@ impl Bdos<MemoryImage, MemoryConsole> {
             user: self.user,
             search: self.search,
         })
+    }
+}
+
+impl<S: Sectors> Bdos<S, MemoryConsole> {
+    ghost use Rattle.std.specs.Prelude.{◌≡◌, is_ok, if◌then◌else◌};
+    ghost use Rattle.cpm_console.specs.Dialog.{output_cleared, typed_in};
+    ghost use Rattle.cpm_bdos.specs.System.{with_console};
+
+    /// Adds bytes to the end of the console's input.
+    ///
+    /// # Errors
+    ///
+    /// [`AllocError`] if memory runs out. Then the system is as it was.
+    pub fn type_in(&mut self, bytes: &[u8]) -> Result<(), AllocError>
+        ensures { self.new ≡ (if is_ok result then with_console (typed_in bytes.now self.old.terminal.console) self.old else self.old) }
+    {
+        self.terminal.console.type_in(bytes)
+    }
+
+    /// Forgets what the console has put.
+    pub fn clear_output(&mut self)
+        ensures { self.new ≡ with_console (output_cleared self.old.terminal.console) self.old }
+    {
+        self.terminal.console.clear_output();
     }
 }

@@ -1,5 +1,5 @@
 -- The bytes that pass between a console and the program that uses it.
-use Rattle.std.specs.Prelude.{◌≡◌, ℕ, List, [], ◌∷◌, ◌++◌, Option}
+use Rattle.std.specs.Prelude.{◌≡◌, ℕ, List, [], ◌∷◌, ◌++◌, Option, Some}
 use Rattle.std.specs.Io.KnownBytes.{Appends}
 
 -- A console as its user sees it: the bytes that are still to be taken, the bytes that were put if they are known, and the number of its
@@ -11,6 +11,14 @@ pub record Dialog : Type 0 where
 
 abbrev pub dialog_of : List ℕ → Option (List ℕ) → ℕ → Dialog
 dialog_of input output faults = record { input = input; output = output; faults = faults }
+
+-- these bytes were typed after those that are still to be taken
+abbrev pub typed_in : List ℕ → Dialog → Dialog
+typed_in bytes d = record d { input = d.input ++ bytes }
+
+-- the bytes that were put are forgotten
+abbrev pub output_cleared : Dialog → Dialog
+output_cleared d = record d { output = Some [] }
 
 -- one byte that passes
 pub data Event : Type 0 where

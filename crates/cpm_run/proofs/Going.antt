@@ -50,7 +50,7 @@ ran_as limit k stop other old new e ran = subst (λ (s : Stop). Ran system limit
 
 module _ {S C : Type 0} (sectors : S → Image) (faults : S → ℕ) (dialog : C → Dialog) where
   -- one step of the machine at such an address is a step of the run
-  step_is_turn : (outcome : Step) (old new : Machine) (s : System S C) → is_watched system old.cpu.pc ≡ false → IsStep outcome old new → IsTurn sectors faults dialog (at old s) (step_end outcome) (at new s)
+  pub step_is_turn : (outcome : Step) (old new : Machine) (s : System S C) → is_watched system old.cpu.pc ≡ false → IsStep outcome old new → IsTurn sectors faults dialog (at old s) (step_end outcome) (at new s)
   step_is_turn outcome old new s e is =
       subst (λ (p : Place). TurnAt sectors faults dialog p (at old s) (step_end outcome) (at new s)) (sym (unwatched old.cpu.pc e).0) (outcome, is, refl, refl)
 

@@ -5,3 +5,5 @@ pub mod Run
 pub mod Undisturbed
 pub mod Records
 pub mod Walks
+pub mod Play
+pub mod Private

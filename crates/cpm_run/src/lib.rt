@@ -4,24 +4,31 @@
 //! [`run`] begins in that state and runs the program to its end. [`run_traced`] does the same step by step, and keeps the steps.
 #![tactic(auto)]
 
+mod arriving;
+mod asking;
 mod ending;
 mod fault;
 pub mod laws;
 mod places;
+mod playing;
 mod recording;
 mod running;
 mod starting;
+mod station;
 mod tracing;
 mod turning;
 mod words;
 
+pub use arriving::{Arrival, PlayEnd};
 pub use cpm_bdos::Stop;
 pub use ending::{RunEnd, Why};
 pub use fault::StartFault;
 pub use places::{BDOS, BIOS, bios_entry, is_finished};
+pub use playing::{Played, play};
 pub use recording::{ADDRESSES, Record, TraceStep, Wish};
 pub use running::run;
 pub use starting::start;
+pub use station::{Came, Patience, Station, StationFault};
 pub use tracing::{Left, Traced, run_traced};
 pub use turning::turn;
 pub use words::LONGEST_TAIL;

@@ -1,0 +1,86 @@
+-- A session at a keyboard: a run to which bytes come between its steps.
+use Rattle.std.specs.Prelude.{◌≡◌, ◌≤◌, ◌+◌, ◌++◌, ◌⊎◌, ℕ, true, false, List, [], Option, Some, Ok, Err, ⊤, map}
+use Rattle.std.specs.Io.KnownBytes.{Appends}
+use Rattle.z80_cpu.specs.State.{machine}
+use Rattle.z80_cpu.specs.declared.registers.Cpu.{Cpu}
+use Rattle.cpm_console.specs.Dialog.{Dialog, output_cleared, dialog_of, typed_in}
+use Rattle.cpm_disk.specs.Calls.{Mounted}
+use Rattle.cpm_disk.specs.Image.{Image}
+use Rattle.cpm_bdos.specs.System.{new_system, with_console}
+use Rattle.cpm_run.specs.declared.ending.Why.{Why}
+use Rattle.cpm_run.specs.declared.ending.Why.TheVariants as why
+use Rattle.cpm_run.specs.declared.fault.StartFault.{StartFault}
+use Rattle.cpm_run.specs.declared.arriving.Arrival.{Arrival}
+use Rattle.cpm_run.specs.declared.arriving.PlayEnd.{PlayEnd}
+use Rattle.cpm_run.specs.declared.arriving.PlayEnd.TheVariants as play
+use Rattle.cpm_run.specs.Run.{unstarted}
+use Rattle.cpm_run.specs.Start.{IsStart}
+use Rattle.cpm_run.specs.Turns.{Goes, IsTurn, RunState, is_finished}
+
+-- A session so far: the state of the run, on a console in memory; the number of steps; each byte that came, with the number of steps before
+-- it; and what was shown.
+pub record PlayState (S : Type 0) : Type 0 where
+  pub run : RunState S Dialog
+  pub turns : ℕ
+  pub arrivals : List Arrival
+  pub shown : List ℕ
+
+-- the run with another console
+abbrev pub on_console : {S : Type 0} → Dialog → RunState S Dialog → RunState S Dialog
+on_console console r = record r { system = with_console console r.system }
+
+-- bytes that came after this number of steps
+abbrev pub arrived : ℕ → List ℕ → List Arrival
+arrived turns bytes = map (λ byte. record { turn = turns; byte = byte }) bytes
+
+-- How a session continues: the run makes steps, and none ends it; bytes arrive, and the program can take them from then on; or what the program
+-- has put is shown.
+pub data PlaysOn {S : Type 0} (sectors : S → Image) (faults : S → ℕ) : PlayState S → PlayState S → Type 0 where
+  same : (s : PlayState S) → PlaysOn sectors faults s s
+  goes : (n : ℕ) (old mid : PlayState S) (run : RunState S Dialog) → PlaysOn sectors faults old mid → Goes sectors faults (λ d. d) n mid.run run
+      → PlaysOn sectors faults old (record mid { run = run; turns = mid.turns + n })
+  came : (bytes : List ℕ) (old mid : PlayState S) → PlaysOn sectors faults old mid
+      → PlaysOn sectors faults old (record mid { run = on_console (typed_in bytes mid.run.system.terminal.console) mid.run; arrivals = mid.arrivals ++ arrived mid.turns bytes })
+  shows : (bytes : List ℕ) (old mid : PlayState S) → PlaysOn sectors faults old mid → mid.run.system.terminal.console.output ≡ Some bytes
+      → PlaysOn sectors faults old (record mid { run = on_console (output_cleared mid.run.system.terminal.console) mid.run; shown = mid.shown ++ bytes })
+
+-- a last step, which counts too, ends the run
+abbrev pub EndsBy : {S : Type 0} → (S → Image) → (S → ℕ) → PlayState S → Why → PlayState S → Type 0
+EndsBy {S} sectors faults start end new =
+    (last : PlayState S) × PlaysOn sectors faults start last × (is_finished last.run.machine.cpu.pc ≡ false) × IsTurn sectors faults (λ d. d) last.run (Some end) new.run
+    × (new.turns ≡ last.turns + 1) × (new.arrivals ≡ last.arrivals) × (new.shown ≡ last.shown)
+
+-- How the run of a session ends: the program has finished, which is tested before the limit; the limit is reached; or by a last step.
+abbrev pub PlayedRunEnds : {S : Type 0} → (S → Image) → (S → ℕ) → ℕ → PlayState S → Why → PlayState S → Type 0
+PlayedRunEnds sectors faults limit start end new =
+    (PlaysOn sectors faults start new × (is_finished new.run.machine.cpu.pc ≡ true) × (end ≡ why.Finished))
+    ⊎ ((PlaysOn sectors faults start new × (new.turns ≡ limit) × (is_finished new.run.machine.cpu.pc ≡ false) × (end ≡ why.TurnLimit))
+    ⊎ EndsBy sectors faults start end new)
+
+-- How a session ends: with the run; or before, since the person left, or memory ran out for what came; or since the keyboard or the screen
+-- failed, which may also be after the run.
+abbrev pub PlayEnds : {S : Type 0} → (S → Image) → (S → ℕ) → ℕ → PlayState S → PlayEnd → PlayState S → Type 0
+PlayEnds sectors faults limit start (play.Run end) new = PlayedRunEnds sectors faults limit start end new
+PlayEnds sectors faults limit start play.Failed new = PlaysOn sectors faults start new ⊎ ((end : Why) × PlayedRunEnds sectors faults limit start end new)
+PlayEnds sectors faults limit start _ new = PlaysOn sectors faults start new
+
+-- What was shown in a session, given what was known to be shown before and after it, what the session has shown, and what the program has put
+-- that is not shown yet. If the run has ended, all is shown. If the session ended before that, the echo of a line that was not finished may be
+-- shown too. If the screen failed, this says nothing.
+abbrev pub IsShown : PlayEnd → Option (List ℕ) → Option (List ℕ) → List ℕ → Option (List ℕ) → Type 0
+IsShown (play.Run end) before after shown rest = (bytes : List ℕ) × (rest ≡ Some bytes) × Appends before after (shown ++ bytes)
+IsShown play.Failed before after shown rest = ⊤
+IsShown _ before after shown rest = (echo : List ℕ) × Appends before after (shown ++ echo)
+
+-- the session at the start of a program
+abbrev pub first_state : {S : Type 0} → Cpu → List ℕ → Mounted S → PlayState S
+first_state cpu memory disk = record { run = record { machine = machine cpu memory; system = new_system disk (dialog_of [] (Some []) 0) }; turns = 0; arrivals = []; shown = [] }
+
+-- A session with a program and its words, on a disk, of at most `limit` steps: how it ended, after how many steps and with which PC, the disk
+-- then, and the bytes that came. If the program cannot be started, there is no step.
+abbrev pub IsPlayed : {S : Type 0} → (S → Image) → (S → ℕ) → List ℕ → List (List ℕ) → Mounted S → ℕ → Option (List ℕ) → PlayEnd → ℕ → ℕ → Mounted S → List Arrival → Option (List ℕ) → Type 0
+IsPlayed {S} sectors faults file words disk limit before end turns pc left arrivals after =
+    ((cpu : Cpu) × (memory : List ℕ) × (new : PlayState S) × IsStart file words (Ok (cpu, memory)) × PlayEnds sectors faults limit (first_state cpu memory disk) end new
+    × (turns ≡ new.turns) × (turns ≤ limit) × (pc ≡ new.run.machine.cpu.pc) × (left ≡ new.run.system.disk) × (arrivals ≡ new.arrivals)
+    × IsShown end before after new.shown new.run.system.terminal.console.output)
+    ⊎ ((no : StartFault) × IsStart file words (Err no) × (end ≡ play.Run (unstarted no)) × (turns ≡ 0) × (pc ≡ 0x0100) × (left ≡ disk) × (arrivals ≡ []) × (after ≡ before))

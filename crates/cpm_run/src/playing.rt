@@ -1,0 +1,146 @@
+//! Runs a program for somebody at a keyboard.
+
+ghost use Rattle.std.specs.Prelude.{◌≡◌, ◌≤◌, ◌<◌, List, OnOk, Option, ℕ, map};
+ghost use Rattle.cpm_run.specs.Play.{IsPlayed, PlayState, IsShown, PlayEnds};
+ghost use Rattle.cpm_run.specs.Private.Playing.{Continues, Ends, OnlyShows, SoFar, state_of};
+
+mod state;
+mod waiting;
+
+use crate::arriving::{Arrival, PlayEnd};
+use crate::ending::{Why, unstarted};
+use crate::places::is_finished;
+use crate::starting::start;
+use crate::station::Station;
+use cpm_disk::Disk;
+use cpm_image::Sectors;
+use state::Playing;
+use std::alloc::Global;
+
+/// At most this number of steps are made before the keyboard is looked at, so that a person can leave a program that makes no calls.
+const SLICE: u64 = 20_000_000;
+
+/// At most this number of bytes are put before they are shown.
+const MOST_HELD: usize = 4_096;
+
+/// How a session ended, the disk then, and the bytes that came.
+#[derive(Drop)]
+pub struct Played<S: Sectors> {
+    pub end: PlayEnd,
+    /// The number of steps: system calls and steps of the machine, with the last one.
+    pub turns: u64,
+    /// PC at the end: the address of the next instruction.
+    pub pc: u16,
+    pub disk: Disk<S>,
+    /// Each byte that came, in order.
+    pub arrivals: Vec<Arrival>,
+}
+
+impl<S: Sectors> Playing<S> {
+    /// Shows what was put, if it is much, or if a part of it is shown already.
+    fn show_much<K: Station>(&mut self, station: &mut K) -> Result<(), PlayEnd>
+        ensures turns { self.new.turns ≡ self.old.turns }
+        ensures so_far { (limit : ℕ) (start : PlayState S) (before : Option (List ℕ)) → SoFar S.sectors S.faults start before self.old (K.shown station.old) → Continues S.sectors S.faults limit result start before self.new (K.shown station.new) }
+    {
+        if !self.ahead.is_empty() || self.bdos.console().output().len() >= MOST_HELD {
+            return self.show_all(station);
+        }
+        Ok(())
+    }
+
+    /// Makes steps up to an address of the system, sees that the next step has the input that it needs, and makes it.
+    fn go_round<K: Station>(
+        &mut self,
+        alloc: Global,
+        station: &mut K,
+        limit: u64,
+    ) -> Result<(), PlayEnd>
+        requires bound { self.old.turns ≤ limit }
+        ensures bound { self.new.turns ≤ limit }
+        ensures further { OnOk result (self.old.turns < self.new.turns) }
+        ensures so_far { (start : PlayState S) (before : Option (List ℕ)) → SoFar S.sectors S.faults start before self.old (K.shown station.old) → Continues S.sectors S.faults limit result start before self.new (K.shown station.new) }
+    {
+        if let Some(why) = self.compute((limit - self.turns).min(SLICE)) {
+            return Err(PlayEnd::Run(why));
+        }
+        if is_finished(self.cpu.pc) {
+            return Err(PlayEnd::Run(Why::Finished));
+        }
+        if self.turns == limit {
+            return Err(PlayEnd::Run(Why::TurnLimit));
+        }
+        self.attend(alloc, station)?;
+        if let Some(why) = self.take_turn() {
+            return Err(PlayEnd::Run(why));
+        }
+        self.show_much(station)
+    }
+
+    /// Makes steps until the session ends.
+    fn play<K: Station>(&mut self, alloc: Global, station: &mut K, limit: u64) -> PlayEnd
+        requires bound { self.old.turns ≤ limit }
+        ensures bound { self.new.turns ≤ limit }
+        ensures so_far { (start : PlayState S) (before : Option (List ℕ)) → SoFar S.sectors S.faults start before self.old (K.shown station.old) → Ends S.sectors S.faults limit result start before self.new (K.shown station.new) }
+    {
+        loop {
+            if let Err(end) = self.go_round(alloc, station, limit) {
+                return end;
+            }
+        }
+    }
+
+    /// Shows what was put last, if the run has ended. Answers how the session ended.
+    fn close<K: Station>(&mut self, station: &mut K, end: PlayEnd) -> PlayEnd
+        ensures others { OnlyShows self.old self.new }
+        ensures ended { (limit : ℕ) (start : PlayState S) (before : Option (List ℕ)) → Ends S.sectors S.faults limit end start before self.old (K.shown station.old)
+            → (shown : List ℕ) × PlayEnds S.sectors S.faults limit start result (state_of self.old shown) × IsShown result before (K.shown station.new) shown self.old.bdos.terminal.console.output }
+    {
+        match end {
+            PlayEnd::Run(why) => match self.show(station) {
+                Ok(()) => PlayEnd::Run(why),
+                Err(_) => PlayEnd::Failed,
+            },
+            other => other,
+        }
+    }
+}
+
+/// Runs a program from 0100H with its words, on a disk, which is drive A, for somebody at a keyboard, for at most `limit` steps.
+///
+/// A step is that of [`crate::run`]. Bytes come between steps: before a step that asks whether a byte is there, before one that takes a
+/// byte or a line, and from time to time. A step that takes a byte or a line is made only when it has what it takes, or when no byte will
+/// come any more. Meanwhile the echo of the line is shown.
+pub fn play<S: Sectors, K: Station>(
+    alloc: Global,
+    com: &[u8],
+    words: &[&[u8]],
+    disk: Disk<S>,
+    station: &mut K,
+    limit: u64,
+) -> Played<S>
+    ensures { IsPlayed S.sectors S.faults «com».now (map (λ w. w.now) words.now) disk limit (K.shown station.old) result.end result.turns result.pc result.disk result.arrivals.items (K.shown station.new) }
+{
+    let (cpu, memory) = match start(alloc, com, words) {
+        Ok(state) => state,
+        Err(fault) => {
+            return Played {
+                end: PlayEnd::Run(unstarted(fault)),
+                turns: 0,
+                pc: 0x0100,
+                disk,
+                arrivals: Vec::new(alloc),
+            };
+        }
+    };
+    let mut playing = Playing::new(alloc, cpu, memory, disk);
+    let end = playing.play(alloc, station, limit);
+    let end = playing.close(station, end);
+    let (disk, _) = playing.bdos.into_parts();
+    Played {
+        end,
+        turns: playing.turns,
+        pc: playing.cpu.pc,
+        disk,
+        arrivals: playing.arrivals,
+    }
+}

@@ -1,0 +1,174 @@
+//! The state of a session, and what changes it.
+
+ghost use Rattle.std.specs.Prelude.{◌≡◌, ◌≢◌, ◌≤◌, ◌<◌, ◌+◌, ◌^◌, ◌-◌, ◌++◌, [], ℕ, false, IfOk, List, MatchOption, OnErr, OnOk, Option, Some};
+ghost use Rattle.std.specs.Io.KnownBytes.{Appends};
+ghost use Rattle.cpm_console.specs.Dialog.{output_cleared};
+ghost use Rattle.cpm_bdos.specs.System.{with_console};
+ghost use Rattle.cpm_run.specs.Play.{PlayState, PlaysOn, arrived, first_state};
+ghost use Rattle.cpm_run.specs.Turns.{is_finished};
+ghost use Rattle.cpm_run.specs.Private.Playing.{Continues, IsStill, OnlyShows, SoFar, Went, state_of};
+
+use crate::arriving::{Arrival, PlayEnd};
+use crate::ending::Why;
+use crate::places::{BDOS, BIOS};
+use crate::station::{Came, Patience, Station, StationFault};
+use crate::turning::turn;
+use cpm_bdos::Bdos;
+use cpm_console::MemoryConsole;
+use cpm_disk::Disk;
+use cpm_image::Sectors;
+use std::alloc::{AllocError, Global};
+use z80_machine::{Cpu, Memory, Stop, Watch};
+
+/// The addresses at which a step is not one of the machine, so the machine stops there.
+const SYSTEM: Watch = Watch {
+    from: BIOS,
+    at: BDOS,
+};
+
+/// A session.
+#[derive(Drop)]
+pub(crate) struct Playing<S: Sectors> {
+    pub(crate) cpu: Cpu,
+    pub(crate) memory: Memory,
+    pub(crate) bdos: Bdos<S, MemoryConsole>,
+    /// The number of steps so far.
+    pub(crate) turns: u64,
+    /// The bytes that came.
+    pub(crate) arrivals: Vec<Arrival>,
+    /// The echo of a line that is being typed. It is shown, but the console has not put it yet.
+    pub(crate) ahead: Vec<u8>,
+    /// Whether no byte will come any more.
+    pub(crate) ended: bool,
+}
+
+/// The bytes that came after this number of steps.
+fn arrived(alloc: Global, turns: u64, bytes: &[u8]) -> Result<Vec<Arrival>, AllocError>
+    ensures { IfOk result (λ list. list.items ≡ arrived turns bytes.now) }
+{
+    let mut list = Vec::with_capacity(alloc, bytes.len())?;
+    for byte in bytes {
+        list.push(Arrival {
+            turn: turns,
+            byte: *byte,
+        })?;
+    }
+    Ok(list)
+}
+
+/// What follows the bytes that are shown already, if the bytes that were put begin with them.
+pub(crate) fn behind<'a>(ahead: &[u8], put: &'a [u8]) -> Option<&'a [u8]>
+    ensures { MatchOption result ((rest : List ℕ) → put.now ≢ ahead.now ++ rest) (λ rest. put.now ≡ ahead.now ++ rest.now) }
+{
+    put.strip_prefix(ahead)
+}
+
+impl<S: Sectors> Playing<S> {
+    /// The session at the start of a program.
+    pub(crate) fn new(alloc: Global, cpu: Cpu, memory: Memory, disk: Disk<S>) -> Playing<S>
+        ensures state { state_of result [] ≡ first_state cpu memory disk }
+        ensures ahead { result.ahead.items ≡ [] }
+    {
+        let console = MemoryConsole::new(alloc, Vec::new(alloc));
+        Playing {
+            cpu,
+            memory,
+            bdos: Bdos::new(disk, console),
+            turns: 0,
+            arrivals: Vec::new(alloc),
+            ahead: Vec::new(alloc),
+            ended: false,
+        }
+    }
+
+    /// Makes at most `most` steps of the machine, up to an address of the system. Answers why one of them ended the run, if it did.
+    pub(crate) fn compute(&mut self, most: u64) -> Option<Why>
+        requires room { self.old.turns + most < 2 ^ 64 }
+        ensures bound { self.new.turns ≤ self.old.turns + most }
+        ensures least { self.old.turns ≤ self.new.turns }
+        ensures ahead { self.new.ahead.items ≡ self.old.ahead.items }
+        ensures goes { (start : PlayState S) (shown : List ℕ) → PlaysOn S.sectors S.faults start (state_of self.old shown) → Went S.sectors S.faults result start (state_of self.new shown) }
+    {
+        let (made, stop) = z80_machine::run(&mut self.cpu, &mut self.memory, SYSTEM, most);
+        self.turns += made;
+        match stop {
+            Stop::Halted => {
+                self.turns += 1;
+                Some(Why::Halted)
+            }
+            Stop::Undocumented => {
+                self.turns += 1;
+                Some(Why::Undocumented)
+            }
+            _ => None,
+        }
+    }
+
+    /// Makes one step. Answers why it ended the run, if it did.
+    pub(crate) fn take_turn(&mut self) -> Option<Why>
+        requires running { is_finished self.old.cpu.pc ≡ false }
+        requires room { self.old.turns < 2 ^ 64 - 1 }
+        ensures turns { self.new.turns ≡ self.old.turns + 1 }
+        ensures ahead { self.new.ahead.items ≡ self.old.ahead.items }
+        ensures goes { (start : PlayState S) (shown : List ℕ) → PlaysOn S.sectors S.faults start (state_of self.old shown) → Went S.sectors S.faults result start (state_of self.new shown) }
+    {
+        let end = turn(&mut self.cpu, &mut self.memory, &mut self.bdos);
+        self.turns += 1;
+        end
+    }
+
+    /// Takes bytes that came. If memory runs out, none of them came.
+    fn take_in(&mut self, alloc: Global, bytes: &[u8]) -> Result<(), AllocError>
+        ensures still { IsStill self.old self.new }
+        ensures ahead { self.new.ahead.items ≡ self.old.ahead.items }
+        ensures came { (start : PlayState S) (shown : List ℕ) → PlaysOn S.sectors S.faults start (state_of self.old shown) → PlaysOn S.sectors S.faults start (state_of self.new shown) }
+    {
+        let known = self.arrivals.len();
+        let list = arrived(alloc, self.turns, bytes)?;
+        self.arrivals.extend_from_slice(&list)?;
+        match self.bdos.type_in(bytes) {
+            Ok(()) => Ok(()),
+            Err(error) => {
+                self.arrivals.truncate(known);
+                Err(error)
+            }
+        }
+    }
+
+    /// Asks the keyboard, and takes what came.
+    pub(crate) fn listen<K: Station>(
+        &mut self,
+        alloc: Global,
+        station: &mut K,
+        patience: Patience,
+    ) -> Result<(), PlayEnd>
+        ensures still { IsStill self.old self.new }
+        ensures so_far { (limit : ℕ) (start : PlayState S) (before : Option (List ℕ)) → SoFar S.sectors S.faults start before self.old (K.shown station.old) → Continues S.sectors S.faults limit result start before self.new (K.shown station.new) }
+    {
+        let mut buffer = [0; 256];
+        match station.listen(self.turns, patience, &mut buffer)? {
+            Came::Bytes(count) => self.take_in(alloc, &buffer[..count.min(256)])?,
+            Came::End => self.ended = true,
+            Came::Leave => return Err(PlayEnd::Left),
+        }
+        Ok(())
+    }
+
+    /// Shows what the program has put, without what was shown ahead of it.
+    pub(crate) fn show<K: Station>(&mut self, station: &mut K) -> Result<(), StationFault>
+        ensures others { OnlyShows self.old self.new }
+        ensures failed { OnErr result (self.new ≡ self.old) }
+        ensures all { OnOk result ((before : Option (List ℕ)) (shown : List ℕ) → Appends before (K.shown station.old) (shown ++ self.old.ahead.items)
+            → (bytes : List ℕ) × (self.old.bdos.terminal.console.output ≡ Some bytes) × Appends before (K.shown station.new) (shown ++ bytes)) }
+        ensures rest { OnOk result ((self.new.ahead.items ≡ []) × ((start : PlayState S) (shown bytes : List ℕ) → self.old.bdos.terminal.console.output ≡ Some bytes → PlaysOn S.sectors S.faults start (state_of self.old shown) → PlaysOn S.sectors S.faults start (state_of self.new (shown ++ bytes)))) }
+    {
+        let put = self.bdos.console().output();
+        let Some(rest) = behind(&self.ahead, put) else {
+            return Err(StationFault);
+        };
+        station.show(rest)?;
+        self.ahead.clear();
+        self.bdos.clear_output();
+        Ok(())
+    }
+}

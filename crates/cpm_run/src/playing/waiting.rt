@@ -1,0 +1,123 @@
+//! What a session does before a step that asks for input.
+
+ghost use Rattle.std.specs.Prelude.{List, Option, ℕ};
+ghost use Rattle.cpm_run.specs.Play.{PlayState};
+ghost use Rattle.cpm_run.specs.Private.Playing.{Continues, IsStill, SoFar};
+
+use crate::arriving::PlayEnd;
+use crate::asking::{Need, needed};
+use crate::playing::state::{Playing, behind};
+use crate::station::{Patience, Station};
+use cpm_console::{ConsoleError, MemoryConsole, Terminal};
+use cpm_image::Sectors;
+use std::alloc::{AllocError, Global};
+
+/// How often the keyboard is asked for a byte before a session gives up. At ten times a second that takes 13 years.
+const MOST_WAITS: u32 = u32::MAX;
+
+/// What function 10 has put so far, and whether the line is whole.
+#[derive(Drop)]
+struct Echo {
+    bytes: Vec<u8>,
+    is_whole: bool,
+}
+
+/// What function 10 puts for these bytes.
+fn echo_of(alloc: Global, typed: &[u8], column: u16, room: u8) -> Result<Echo, AllocError> {
+    let mut input = Vec::with_capacity(alloc, typed.len())?;
+    input.extend_from_slice(typed)?;
+    let mut terminal = Terminal {
+        console: MemoryConsole::new(alloc, input),
+        column,
+    };
+    let mut line = [0; 255];
+    let is_whole = !matches!(
+        terminal.read_line(room, &mut line),
+        Err(ConsoleError::EndOfInput)
+    );
+    let mut bytes = Vec::new(alloc);
+    bytes.extend_from_slice(terminal.console.output())?;
+    Ok(Echo { bytes, is_whole })
+}
+
+impl<S: Sectors> Playing<S> {
+    /// Waits until a byte is there, or no byte will come.
+    fn await_byte<K: Station>(&mut self, alloc: Global, station: &mut K) -> Result<(), PlayEnd>
+        ensures still { IsStill self.old self.new }
+        ensures so_far { (limit : ℕ) (start : PlayState S) (before : Option (List ℕ)) → SoFar S.sectors S.faults start before self.old (K.shown station.old) → Continues S.sectors S.faults limit result start before self.new (K.shown station.new) }
+    {
+        for _ in 0..MOST_WAITS {
+            if self.ended || !self.bdos.console().typed().is_empty() {
+                return Ok(());
+            }
+            self.listen(alloc, station, Patience::Wait)?;
+        }
+        Err(PlayEnd::Failed)
+    }
+
+    /// Shows the echo of the line that is being typed, as far as it is not shown yet. Answers whether the line is whole.
+    fn echo<K: Station>(&mut self, alloc: Global, station: &mut K) -> Result<bool, PlayEnd>
+        ensures still { IsStill self.old self.new }
+        ensures so_far { (limit : ℕ) (start : PlayState S) (before : Option (List ℕ)) → SoFar S.sectors S.faults start before self.old (K.shown station.old) → Continues S.sectors S.faults limit result start before self.new (K.shown station.new) }
+    {
+        let room = self.memory.get(self.cpu.main.de());
+        let echo = echo_of(alloc, self.bdos.console().typed(), self.bdos.column(), room)?;
+        let Some(more) = behind(&self.ahead, &echo.bytes) else {
+            return Err(PlayEnd::Failed);
+        };
+        self.ahead.extend_from_slice(more)?;
+        match station.show(more) {
+            Ok(()) => Ok(echo.is_whole),
+            Err(_) => Err(PlayEnd::Failed),
+        }
+    }
+
+    /// Waits until a line is whole, or no byte will come. Shows what is typed meanwhile.
+    fn await_line<K: Station>(&mut self, alloc: Global, station: &mut K) -> Result<(), PlayEnd>
+        ensures still { IsStill self.old self.new }
+        ensures so_far { (limit : ℕ) (start : PlayState S) (before : Option (List ℕ)) → SoFar S.sectors S.faults start before self.old (K.shown station.old) → Continues S.sectors S.faults limit result start before self.new (K.shown station.new) }
+    {
+        for _ in 0..MOST_WAITS {
+            if self.echo(alloc, station)? || self.ended {
+                return Ok(());
+            }
+            if let Err(end) = self.listen(alloc, station, Patience::Wait) {
+                return Err(end);
+            }
+        }
+        Err(PlayEnd::Failed)
+    }
+
+    /// Shows what was put, so that nothing is hidden while somebody is asked.
+    pub(crate) fn show_all<K: Station>(&mut self, station: &mut K) -> Result<(), PlayEnd>
+        ensures still { IsStill self.old self.new }
+        ensures so_far { (limit : ℕ) (start : PlayState S) (before : Option (List ℕ)) → SoFar S.sectors S.faults start before self.old (K.shown station.old) → Continues S.sectors S.faults limit result start before self.new (K.shown station.new) }
+    {
+        match self.show(station) {
+            Ok(()) => Ok(()),
+            Err(_) => Err(PlayEnd::Failed),
+        }
+    }
+
+    /// Sees that the next step has the input that it needs.
+    pub(crate) fn attend<K: Station>(
+        &mut self,
+        alloc: Global,
+        station: &mut K,
+    ) -> Result<(), PlayEnd>
+        ensures still { IsStill self.old self.new }
+        ensures so_far { (limit : ℕ) (start : PlayState S) (before : Option (List ℕ)) → SoFar S.sectors S.faults start before self.old (K.shown station.old) → Continues S.sectors S.faults limit result start before self.new (K.shown station.new) }
+    {
+        let need = needed(&self.cpu);
+        if need == Need::Nothing {
+            return Ok(());
+        }
+        self.show_all(station)?;
+        match need {
+            Need::Nothing => Ok(()),
+            Need::Status => self.listen(alloc, station, Patience::Poll),
+            Need::Byte => self.await_byte(alloc, station),
+            Need::Line => self.await_line(alloc, station),
+        }
+    }
+}

@@ -1,0 +1,55 @@
+//! Where somebody sits while a program runs: a keyboard and a screen.
+
+ghost use Rattle.std.specs.Prelude.{◌≡◌, List, OnOk, Option, ℕ};
+ghost use Rattle.std.specs.Io.KnownBytes.{Appends};
+
+/// Whether a keyboard is asked for what has come, or for what will come.
+#[derive(Clone, Copy, Debug, PartialEq, Eq)]
+pub enum Patience {
+    /// For the bytes that have come. There may be none.
+    Poll,
+    /// Until a byte comes. A keyboard may answer no byte all the same, so that it is asked again.
+    Wait,
+}
+
+/// What came from a keyboard.
+#[derive(Clone, Copy, Debug, PartialEq, Eq)]
+pub enum Came {
+    /// This number of bytes, at the front of the buffer.
+    Bytes(usize),
+    /// No byte will ever come.
+    End,
+    /// The person wants to leave.
+    Leave,
+}
+
+/// A keyboard could not be read, or a screen takes no bytes.
+#[derive(Clone, Copy, Debug, PartialEq, Eq)]
+pub struct StationFault;
+
+/// A keyboard and a screen.
+pub trait Station {
+    /// The bytes that were shown so far, if they are known.
+    ghost shown: { Self → Option (List ℕ) };
+
+    /// Reads what comes into a buffer. The program has made `turns` steps.
+    ///
+    /// # Errors
+    ///
+    /// [`StationFault`] if the keyboard cannot be read.
+    fn listen(
+        &mut self,
+        turns: u64,
+        patience: Patience,
+        buffer: &mut [u8],
+    ) -> Result<Came, StationFault>
+        ensures { shown self.new ≡ shown self.old };
+
+    /// Shows bytes.
+    ///
+    /// # Errors
+    ///
+    /// [`StationFault`] if the screen does not take them all.
+    fn show(&mut self, bytes: &[u8]) -> Result<(), StationFault>
+        ensures { OnOk result (Appends (shown self.old) (shown self.new) bytes.now) };
+}
