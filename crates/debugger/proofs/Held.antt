@@ -20,7 +20,7 @@ bytes_before old memory watches first second bytes lent same f s l read =
     l ∙ read ∙ ap (λ (m : List ℕ). map (λ address. byte_at address m) first) same ∙ ap (λ (ws : List ℕ). map (λ address. byte_at address old) ws) (f ∙ sym s)
 
 pub held_is : (goal : Option Goal) (stops : Stops) (old new : MemoryState) (breakpoints : List Breakpoint) (watches memory : List ℕ) (cpu : Cpu) (by : ℕ) (returned : Option ℕ) (found : Option Hit) (change : Option Change) (reached : Bool) (held : Option Hit)
-    → breakpoints ≡ stops.breakpoints.items → watches ≡ stops.watches.items → cpu ≡ new.machine.cpu → memory ≡ new.machine.memory → by ≡ old.machine.cpu.pc → returned ≡ sp_returned old
+    → breakpoints ≡ stops.breakpoints.items → watches ≡ stops.watches.items → cpu ≡ new.machine.cpu → memory ≡ new.machine.memory → by ≡ old.machine.cpu.pc → ((now : Cpu) → is_reached goal returned now ≡ is_reached goal (sp_returned old) now)
     → found ≡ broken cpu breakpoints → change ≡ changed old.machine.memory memory by watches → reached ≡ is_reached goal returned cpu
     → held ≡ option_or found (option_or (option_map hit.Changed change) (if reached then Some hit.Goal else None)) → held ≡ hit_at goal stops old new
 held_is goal stops old new breakpoints watches memory cpu by returned found change reached held bs ws c m b r f ch re h =
@@ -28,7 +28,7 @@ held_is goal stops old new breakpoints watches memory cpu by returned found chan
     let change_is : change ≡ changed old.machine.memory new.machine.memory old.machine.cpu.pc stops.watches.items =
     ch ∙ ap (λ (x : List ℕ). changed old.machine.memory x by watches) m ∙ ap (λ (x : ℕ). changed old.machine.memory new.machine.memory x watches) b
     ∙ ap (λ (x : List ℕ). changed old.machine.memory new.machine.memory old.machine.cpu.pc x) ws in
-    let reached_is : reached ≡ is_reached goal (sp_returned old) new.machine.cpu = re ∙ ap (λ (x : Option ℕ). is_reached goal x cpu) r ∙ ap (λ (x : Cpu). is_reached goal (sp_returned old) x) c in
+    let reached_is : reached ≡ is_reached goal (sp_returned old) new.machine.cpu = re ∙ r cpu ∙ ap (λ (x : Cpu). is_reached goal (sp_returned old) x) c in
     h ∙ ap (λ (x : Option Hit). option_or x (option_or (option_map hit.Changed change) (if reached then Some hit.Goal else None))) found_is
     ∙ ap (λ (x : Option Change). option_or (broken new.machine.cpu stops.breakpoints.items) (option_or (option_map hit.Changed x) (if reached then Some hit.Goal else None))) change_is
     ∙ ap (λ (x : Bool). option_or (broken new.machine.cpu stops.breakpoints.items) (option_or (option_map hit.Changed (changed old.machine.memory new.machine.memory old.machine.cpu.pc stops.watches.items)) (if x then Some hit.Goal else None))) reached_is

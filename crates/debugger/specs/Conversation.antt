@@ -1,6 +1,10 @@
--- How a conversation ends.
-use Rattle.std.specs.Prelude.{◌≡◌, ◌⊎◌, ℕ, Bool, false, true, List, Result, Ok, Err}
+-- A conversation, and how it ends.
+use Rattle.std.specs.Prelude.{◌≡◌, ◌++◌, ◌⊎◌, ℕ, Bool, false, true, List, [], Result, Ok, Err, Some}
+use Rattle.std.specs.Io.KnownBytes.{Appends}
 use Rattle.z80_cpu.specs.declared.registers.Cpu.{Cpu}
+use Rattle.cpm_console.specs.Dialog.{dialog_of}
+use Rattle.cpm_disk.specs.Calls.{Mounted}
+use Rattle.cpm_disk.specs.Image.{Image}
 use Rattle.cpm_run.specs.Start.{IsStart}
 use Rattle.streams.specs.Stream.{Stream, counted}
 use Rattle.debugger.specs.declared.conversation.Broken.{Broken}
@@ -8,6 +12,11 @@ use Rattle.debugger.specs.declared.conversation.Broken.TheVariants as broken
 use Rattle.debugger.specs.declared.debugging.DebugFault.{DebugFault}
 use Rattle.debugger.specs.declared.debugging.DebugFault.TheVariants as debug
 use Rattle.debugger.specs.declared.conversation.TheConstants.{MOST_READS}
+use Rattle.debugger.specs.declared.stops.Stops.{Stops}
+use Rattle.debugger.specs.Going.{IsFirstShown}
+use Rattle.debugger.specs.Labelled.{Known}
+use Rattle.debugger.specs.Session.{Obeys}
+use Rattle.debugger.specs.Walk.{Shown}
 
 -- Printing fails only if the stream fails, which is counted once.
 abbrev pub PrintsOrFails : Stream → Stream → Result Unit Broken → Type 0
@@ -15,12 +24,41 @@ PrintsOrFails old new (Err broken.Output) = new.failures ≡ counted old.failure
 PrintsOrFails old new (Err broken.Input) = ⊥
 PrintsOrFails old new result = new.failures ≡ old.failures
 
+-- One read, and the lines that end in it: the output failed, or the input failed, or neither did.
+abbrev pub ReadsOn : Stream → Stream → Bool → Result Bool Broken → Type 0
+ReadsOn old new failed (Err broken.Output) = (new.failures ≡ counted old.failures) × (failed ≡ false)
+ReadsOn old new failed (Err broken.Input) = (new.failures ≡ old.failures) × (failed ≡ true)
+ReadsOn old new failed result = (new.failures ≡ old.failures) × (failed ≡ false)
+
 -- The commands were read to their end or to `quit`; or the output failed; or the input failed, or had no end after the most reads; or memory
 -- ran out.
 abbrev pub Converses : Stream → Stream → Bool → ℕ → Result Unit Broken → Type 0
 Converses old new failed reads (Err broken.Output) = (new.failures ≡ counted old.failures) × (failed ≡ false)
 Converses old new failed reads (Err broken.Input) = (new.failures ≡ old.failures) × ((failed ≡ true) ⊎ (reads ≡ MOST_READS))
 Converses old new failed reads result = (new.failures ≡ old.failures) × (failed ≡ false)
+
+-- what a session shows, its breakpoints and watched bytes, and whether it was quit
+pub record SessionState : Type 0 where
+  pub shown : Shown
+  pub stops : Stops
+  pub is_over : Bool
+
+-- Lines were obeyed one after the other, none of them after `quit`, and these are their answers.
+pub data Talks (known : Known) (listing : List ℕ) : SessionState → List ℕ → SessionState → Type 0 where
+  none : (t : SessionState) → Talks known listing t [] t
+  more : (old mid new : SessionState) (said text : List ℕ) → Talks known listing old said mid → mid.is_over ≡ false
+      → Obeys known listing mid.shown mid.stops mid.is_over new.shown new.stops new.is_over text → Talks known listing old (said ++ text) new
+
+-- the same, and the answers were printed
+abbrev pub TalksOn : Known → List ℕ → SessionState → SessionState → Stream → Stream → Type 0
+TalksOn known listing old new before after = (said : List ℕ) × Talks known listing old said new × Appends before.bytes after.bytes said
+
+-- A program was debugged with its words, on a disk, with what is typed, from its beginning and without breakpoints; and the answers were
+-- printed.
+abbrev pub DebugsTo : List ℕ → List (List ℕ) → Mounted Image → List ℕ → Known → List ℕ → Stream → Stream → Type 0
+DebugsTo file words disk input known listing before after =
+    (first : Shown) × (stops : Stops) × (last : SessionState) × IsFirstShown file words disk (dialog_of input (Some []) 0) first
+    × (stops.breakpoints.items ≡ []) × (stops.watches.items ≡ []) × TalksOn known listing (record { shown = first; stops = stops; is_over = false }) last before after
 
 -- a program can be started with its words
 abbrev pub Starts : List ℕ → List (List ℕ) → Type 0

@@ -1,8 +1,11 @@
 pub mod Walk
 pub mod Calls
 pub mod Stops
+pub mod Labelled
 pub mod Going
+pub mod Alike
 pub mod Session
+pub mod Printing
 pub mod Text
 pub mod Conversation
 pub mod Private

@@ -5,7 +5,6 @@ use Rattle.z80_cpu.specs.State.{up_by}
 use Rattle.debugger.specs.declared.calls.ReturnPlace.{ReturnPlace}
 use Rattle.debugger.specs.declared.command.Command.{Command}
 use Rattle.debugger.specs.declared.command.Command.TheVariants as command
-use Rattle.debugger.specs.declared.command.Labels.{Labels}
 use Rattle.debugger.specs.declared.history.Outcome.{Outcome}
 use Rattle.debugger.specs.declared.history.Outcome.TheVariants as outcome
 use Rattle.debugger.specs.declared.session.TheConstants.{MOST_TURNS}
@@ -16,6 +15,7 @@ use Rattle.debugger.specs.declared.stops.RegisterName.TheVariants as name
 use Rattle.debugger.specs.declared.stops.Stops.{Stops}
 use Rattle.debugger.specs.Calls.{IsCallBefore, call_place, shown_place}
 use Rattle.debugger.specs.Going.{RanUntil, ShowsTurn}
+use Rattle.debugger.specs.Labelled.{Known}
 use Rattle.debugger.specs.Stops.{IsLast}
 use Rattle.debugger.specs.Text.{Says}
 use Rattle.debugger.specs.Walk.{Shown}
@@ -25,11 +25,11 @@ abbrev pub last_turn : ℕ
 last_turn = 2 ^ 64 - 1
 
 -- Many turns are made, until a breakpoint or a watched byte holds, the goal is reached, the run has ended, or as many as one command makes are
--- made. How it ended is told.
+-- made. The answer is how it ended.
 abbrev pub RunsOn : Option Goal → Stops → Shown → Shown → Option Outcome → Type 0
 RunsOn goal stops old new told = (outcome : Outcome) × (told ≡ Some outcome) × RanUntil goal stops (min MOST_TURNS (last_turn - old.turn)) old new outcome
 
--- the point after this number of turns is shown, and nothing is told
+-- the point after this number of turns is shown, and there is no answer
 abbrev pub GoesTo : ℕ → Shown → Option Outcome → Type 0
 GoesTo turn new told = ShowsTurn turn new × (told ≡ None)
 
@@ -50,16 +50,16 @@ abbrev pub turn_or_0 : Option (ℕ × Hit) → ℕ
 turn_or_0 (Some (turn, why)) = turn
 turn_or_0 None = 0
 
--- `back-run`: back to the last turn before at which something held, which is told; or to the start
+-- `back-run`: back to the last turn before at which something held, which is the answer; or to the start
 abbrev pub BackRuns : Stops → Shown → Shown → Option Outcome → Type 0
 BackRuns stops old new told =
-    (last : Option (ℕ × Hit)) × IsLast stops old.start (old.turn - 1) last × ShowsTurn (turn_or_0 last) new × (told ≡ option_map (λ found. outcome.Held found.1) last)
+    (last : Option (ℕ × Hit)) × IsLast stops old (old.turn - 1) last × ShowsTurn (turn_or_0 last) new × (told ≡ option_map (λ found. outcome.Held found.1) last)
 
 -- `back-next`: back to the call over which `next` leads here; or by one turn, if there is none
 abbrev pub BackNexts : Shown → Shown → Option Outcome → Type 0
 BackNexts old new told = (call : Option ℕ) × IsCallBefore (shown_place old.point.state) old.start old.turn call × GoesTo (unwrap_or call (old.turn - 1)) new told
 
--- What is shown after a command, and what is told of a command that runs to something. Every other command leaves it as it was.
+-- What is shown after a command, and the answer of a command that runs to something. Every other command leaves it as it was.
 abbrev pub Moves : Command → Stops → Shown → Shown → Option Outcome → Type 0
 Moves (command.Step count) stops old new told = GoesTo (min last_turn (old.turn + count)) new told
 Moves (command.Back count) stops old new told = GoesTo (old.turn - count) new told
@@ -93,7 +93,7 @@ abbrev pub IsRefusedLine : List ℕ → Type 0
 IsRefusedLine text = (text ≡ []) ⊎ (text ≡ codes "not a command; try help\n")
 
 -- A line is a command that is obeyed, and its answer is printed; or it is refused and changes nothing.
-abbrev pub Obeys : Labels → List ℕ → Shown → Stops → Bool → Shown → Stops → Bool → List ℕ → Type 0
-Obeys labels listing shown stops over new there is_over text =
-    ((command : Command) × (told : Option Outcome) × Moves command stops shown new told × Sets command stops there × (is_over ≡ (over || is_quit command)) × Says command new labels listing text)
+abbrev pub Obeys : Known → List ℕ → Shown → Stops → Bool → Shown → Stops → Bool → List ℕ → Type 0
+Obeys known listing shown stops over new there is_over text =
+    ((command : Command) × (told : Option Outcome) × Moves command stops shown new told × Sets command stops there × (is_over ≡ (over || is_quit command)) × Says command new known listing text)
     ⊎ ((new ≡ shown) × (there ≡ stops) × (is_over ≡ over) × IsRefusedLine text)

@@ -2,6 +2,7 @@
 use Rattle.std.specs.Prelude.{◌≡◌, ◌+◌, ◌%◌, ◌==◌, ◌&&◌, ◌||◌, ℕ, Bool, false, true, not, List, Option, Some, None, find, if◌then◌else◌, is_some, nat_le, nat_lt, option_map}
 use Rattle.std.specs.Option.{option_or}
 use Rattle.cpm_run.specs.Turns.{Call, Entry, Place, Program, place_at_pc}
+use Rattle.cpm_run.specs.declared.ending.Why.{Why}
 use Rattle.z80_cpu.specs.State.{af, bc, byte_at, de, hl, up_by}
 use Rattle.z80_cpu.specs.declared.registers.Cpu.{Cpu}
 use Rattle.debugger.specs.declared.stops.Breakpoint.{Breakpoint}
@@ -14,7 +15,7 @@ use Rattle.debugger.specs.declared.stops.Hit.TheVariants as hit
 use Rattle.debugger.specs.declared.stops.RegisterName.{RegisterName}
 use Rattle.debugger.specs.declared.stops.RegisterName.TheVariants as name
 use Rattle.debugger.specs.declared.stops.Stops.{Stops}
-use Rattle.debugger.specs.Walk.{IsNextPoint, LeadsBy, Point, MemoryState, first_point, never}
+use Rattle.debugger.specs.Walk.{IsNextPoint, LeadsBy, Point, MemoryState, Shown, first_point, never}
 
 -- the value of a register or of a pair of registers
 abbrev pub named_register : RegisterName → Cpu → ℕ
@@ -106,5 +107,10 @@ IsLastBefore stops start n now (Some (turn, why)) =
     × LeadsBy never before (first_point start) old × IsNextPoint old new × (hit_at None stops old.state new.state ≡ Some why) × LeadsBy (holds None stops) after new now
 IsLastBefore stops start n now None = LeadsBy (holds None stops) n (first_point start) now
 
-abbrev pub IsLast : Stops → MemoryState → ℕ → Option (ℕ × Hit) → Type 0
-IsLast stops start n last = (now : Point) × IsLastBefore stops start n now last
+-- why the run that is shown ends after n turns: it goes on before the turn that is shown
+abbrev pub end_at : ℕ → Shown → Option Why
+end_at n shown = if n == shown.turn then shown.point.end else None
+
+-- The same of the run that is shown. Turns that are made again end as they did first, so memory has not run out for what is printed then.
+abbrev pub IsLast : Stops → Shown → ℕ → Option (ℕ × Hit) → Type 0
+IsLast stops shown n last = (now : Point) × (now.end ≡ end_at n shown) × IsLastBefore stops shown.start n now last

@@ -1,5 +1,6 @@
 //! The commands of a session.
 
+use crate::labels::Labels;
 use crate::stops::{Breakpoint, Condition, RegisterName};
 use asm_scan::{Kind, ScanFault, tokens};
 use std::alloc::{AllocError, Global};
@@ -9,15 +10,6 @@ use std::alloc::{AllocError, Global};
 pub struct Symbol<'a> {
     pub address: u16,
     pub name: &'a [u8],
-}
-
-/// The labels of a program.
-#[derive(Clone, Copy, Debug)]
-pub struct Labels<'a> {
-    /// In any order.
-    pub symbols: &'a [Symbol<'a>],
-    /// The number of bytes of the program. An address beyond it has no label.
-    pub program_len: usize,
 }
 
 /// What a line asks for.
@@ -178,16 +170,6 @@ fn number_of(alloc: Global, word: &str) -> Result<Option<u16>, AllocError> {
     }
 }
 
-/// The address of the first label with this name, in upper or lower case.
-fn labelled(word: &str, symbols: &[Symbol<'_>]) -> Option<u16> {
-    for symbol in symbols {
-        if symbol.name.eq_ignore_ascii_case(word.as_bytes()) {
-            return Some(symbol.address);
-        }
-    }
-    None
-}
-
 /// The address that the answers print as this word: four hexadecimal digits.
 fn printed(word: &str) -> Option<u16> {
     if word.len() == 4 && word.bytes().all(|byte| byte.is_ascii_hexdigit()) {
@@ -198,31 +180,23 @@ fn printed(word: &str) -> Option<u16> {
 }
 
 /// The address after a label, as in `TEXT+1`.
-fn after_label(
-    alloc: Global,
-    word: &str,
-    symbols: &[Symbol<'_>],
-) -> Result<Option<u16>, AllocError> {
+fn after_label(alloc: Global, word: &str, labels: &Labels) -> Result<Option<u16>, AllocError> {
     let Some((name, offset)) = word.split_once('+') else {
         return Ok(None);
     };
     let offset = number_of(alloc, offset)?;
-    Ok(match (labelled(name, symbols), offset) {
+    Ok(match (labels.address_of(name), offset) {
         (Some(address), Some(offset)) => Some(address.wrapping_add(offset)),
         _ => None,
     })
 }
 
 /// The address that a word is: a label, an address as the answers print it, or a number of the language.
-fn address_of(
-    alloc: Global,
-    word: &str,
-    symbols: &[Symbol<'_>],
-) -> Result<Option<u16>, AllocError> {
-    if let Some(address) = labelled(word, symbols).or(printed(word)) {
+fn address_of(alloc: Global, word: &str, labels: &Labels) -> Result<Option<u16>, AllocError> {
+    if let Some(address) = labels.address_of(word).or(printed(word)) {
         return Ok(Some(address));
     }
-    Ok(after_label(alloc, word, symbols)?.or(number_of(alloc, word)?))
+    Ok(after_label(alloc, word, labels)?.or(number_of(alloc, word)?))
 }
 
 /// A number of turns.
@@ -234,12 +208,12 @@ fn count_of(word: &str) -> Option<u64> {
 fn condition_of(
     alloc: Global,
     word: &str,
-    symbols: &[Symbol<'_>],
+    labels: &Labels,
 ) -> Result<Option<Condition>, AllocError> {
     let Some((name, value)) = word.split_once('=') else {
         return Ok(None);
     };
-    let value = address_of(alloc, value, symbols)?;
+    let value = address_of(alloc, value, labels)?;
     Ok(match (register_of(name), value) {
         (Some(register), Some(value)) => Some(Condition { register, value }),
         _ => None,
@@ -301,19 +275,19 @@ fn addressed(
     alloc: Global,
     verb: Verb,
     words: &[&str],
-    symbols: &[Symbol<'_>],
+    labels: &Labels,
 ) -> Result<Option<Command>, AllocError> {
     let Some((first, more)) = words.split_first() else {
         return Ok(None);
     };
-    let Some(address) = address_of(alloc, first, symbols)? else {
+    let Some(address) = address_of(alloc, first, labels)? else {
         return Ok(None);
     };
     match more {
         [] => Ok(at_address(verb, address)),
         [word] => Ok(number_of(alloc, word)?.and_then(|n| at_bytes(verb, address, n))),
         [word, test] if *word == "if" && verb == Verb::Break => {
-            let condition = condition_of(alloc, test, symbols)?;
+            let condition = condition_of(alloc, test, labels)?;
             Ok(condition.map(|c| {
                 Command::Break(Breakpoint {
                     address,
@@ -355,7 +329,7 @@ fn at_bytes(verb: Verb, address: u16, count: u16) -> Option<Command> {
 pub(crate) fn command_of(
     alloc: Global,
     line: &str,
-    symbols: &[Symbol<'_>],
+    labels: &Labels,
 ) -> Result<Option<Command>, AllocError> {
     let mut words = Vec::new(alloc);
     for word in line.split_ascii_whitespace() {
@@ -370,9 +344,9 @@ pub(crate) fn command_of(
     match verb {
         Verb::Step | Verb::Back | Verb::Turn => Ok(counted(verb, more)),
         Verb::Info => Ok(info(more)),
-        Verb::Run if !more.is_empty() => addressed(alloc, verb, more, symbols),
+        Verb::Run if !more.is_empty() => addressed(alloc, verb, more, labels),
         Verb::Break | Verb::Watch | Verb::Memory | Verb::Disassemble | Verb::Who => {
-            addressed(alloc, verb, more, symbols)
+            addressed(alloc, verb, more, labels)
         }
         _ => Ok(alone(verb, more)),
     }

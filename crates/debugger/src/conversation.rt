@@ -1,7 +1,9 @@
 //! Reads commands and prints their answers.
 
-ghost use Rattle.std.specs.Prelude.{◌≡◌, ◌≤◌, false};
-ghost use Rattle.debugger.specs.Conversation.{Converses, PrintsOrFails};
+ghost use Rattle.std.specs.Prelude.{◌≡◌, ◌+◌, ◌<◌, ◌≤◌, IfOk, List, ℕ, false};
+ghost use Rattle.std.specs.Io.KnownBytes.{Appends};
+ghost use Rattle.debugger.specs.Conversation.{Converses, PrintsOrFails, ReadsOn, TalksOn};
+ghost use Rattle.debugger.specs.Session.{Obeys};
 ghost use Rattle.debugger.specs.Walk.{IsTrue_of_run};
 
 use crate::session::Session;
@@ -56,12 +58,41 @@ fn answer_line<O: Sink>(
     ensures start { session.new.history.start ≡ session.old.history.start }
     ensures after { IsTrue_of_run session.new.history }
     ensures prints { PrintsOrFails (O.stream output.old) (O.stream output.new) result }
+    ensures labels { session.new.labels ≡ session.old.labels }
+    ensures listing { session.new.listing ≡ session.old.listing }
+    ensures obeys { IfOk result (λ _. (text : List ℕ) × Obeys session.old.labels session.old.listing.now session.old.history session.old.stops session.old.is_over session.new.history session.new.stops session.new.is_over text
+        × Appends (O.stream output.old).bytes (O.stream output.new).bytes text) }
 {
     let answer = session.answer(line)?;
     match print(output, &answer) {
         Ok(()) => Ok(()),
         Err(_) => Err(Broken::Output),
     }
+}
+
+/// Obeys the line that ends with this byte, and prints the answer; or adds the byte to what was read of the line.
+fn take_byte<O: Sink>(
+    session: &mut Session<'_>,
+    byte: u8,
+    line: &mut Vec<u8>,
+    output: &mut O,
+) -> Result<(), Broken>
+    requires after { IsTrue_of_run session.old.history }
+    requires going { session.old.is_over ≡ false }
+    ensures start { session.new.history.start ≡ session.old.history.start }
+    ensures after { IsTrue_of_run session.new.history }
+    ensures prints { PrintsOrFails (O.stream output.old) (O.stream output.new) result }
+    ensures labels { session.new.labels ≡ session.old.labels }
+    ensures listing { session.new.listing ≡ session.old.listing }
+    ensures talks { IfOk result (λ _. TalksOn session.old.labels session.old.listing.now (record { shown = session.old.history; stops = session.old.stops; is_over = session.old.is_over }) (record { shown = session.new.history; stops = session.new.stops; is_over = session.new.is_over }) (O.stream output.old) (O.stream output.new)) }
+{
+    if byte != b'\n' {
+        line.push(byte)?;
+        return Ok(());
+    }
+    answer_line(session, line, output)?;
+    line.clear();
+    Ok(())
 }
 
 /// Obeys the lines that end in these bytes, and prints each answer. `line` is what was read of the next line. Nothing after `quit` is
@@ -76,19 +107,52 @@ fn take_bytes<O: Sink>(
     ensures start { session.new.history.start ≡ session.old.history.start }
     ensures after { IsTrue_of_run session.new.history }
     ensures prints { PrintsOrFails (O.stream output.old) (O.stream output.new) result }
+    ensures labels { session.new.labels ≡ session.old.labels }
+    ensures listing { session.new.listing ≡ session.old.listing }
+    ensures talks { IfOk result (λ _. TalksOn session.old.labels session.old.listing.now (record { shown = session.old.history; stops = session.old.stops; is_over = session.old.is_over }) (record { shown = session.new.history; stops = session.new.stops; is_over = session.new.is_over }) (O.stream output.old) (O.stream output.new)) }
 {
     for byte in bytes {
         if session.is_over() {
             return Ok(());
         }
-        if *byte == b'\n' {
-            answer_line(session, line, output)?;
-            line.clear();
-        } else {
-            line.push(*byte)?;
-        }
+        take_byte(session, *byte, line, output)?;
     }
     Ok(())
+}
+
+/// Reads some bytes, obeys the lines that end in them, and prints each answer. At the end of the input the rest is the last line. Answers
+/// whether the input has ended.
+fn read_some<I: Input, O: Sink>(
+    session: &mut Session<'_>,
+    input: &mut I,
+    line: &mut Vec<u8>,
+    output: &mut O,
+) -> Result<bool, Broken>
+    requires sound { I.failed input.old ≡ false }
+    requires room { I.reads input.old < MOST_READS }
+    requires after { IsTrue_of_run session.old.history }
+    requires going { session.old.is_over ≡ false }
+    ensures start { session.new.history.start ≡ session.old.history.start }
+    ensures after { IsTrue_of_run session.new.history }
+    ensures labels { session.new.labels ≡ session.old.labels }
+    ensures listing { session.new.listing ≡ session.old.listing }
+    ensures reads { I.reads input.new ≡ I.reads input.old + 1 }
+    ensures ends { ReadsOn (O.stream output.old) (O.stream output.new) (I.failed input.new) result }
+    ensures talks { IfOk result (λ _. TalksOn session.old.labels session.old.listing.now (record { shown = session.old.history; stops = session.old.stops; is_over = session.old.is_over }) (record { shown = session.new.history; stops = session.new.stops; is_over = session.new.is_over }) (O.stream output.old) (O.stream output.new)) }
+{
+    let mut chunk = [0; CHUNK];
+    match input.read(&mut chunk) {
+        Ok(0) => {
+            answer_line(session, line, output)?;
+            Ok(true)
+        }
+        Ok(count) => {
+            take_bytes(session, &chunk[..count], line, output)?;
+            Ok(false)
+        }
+        Err(ReadFault::Interrupted) => Ok(false),
+        Err(ReadFault::Failed) => Err(Broken::Input),
+    }
 }
 
 /// Reads commands, a line each, to `quit` or to the end of the input, and prints each answer before more is read.
@@ -109,18 +173,15 @@ pub fn converse<I: Input, O: Sink>(
     ensures after { IsTrue_of_run session.new.history }
     ensures converses { Converses (O.stream output.old) (O.stream output.new) (I.failed input.new) (I.reads input.new) result }
     ensures reads { I.reads input.new ≤ MOST_READS }
+    ensures talks { IfOk result (λ _. TalksOn session.old.labels session.old.listing.now (record { shown = session.old.history; stops = session.old.stops; is_over = session.old.is_over }) (record { shown = session.new.history; stops = session.new.stops; is_over = session.new.is_over }) (O.stream output.old) (O.stream output.new)) }
 {
     let mut line = Vec::new(alloc);
-    let mut chunk = [0; CHUNK];
     session.knows();
     for _ in 0..MOST_READS {
-        match input.read(&mut chunk) {
-            Ok(0) => return answer_line(session, &line, output),
-            Ok(count) => take_bytes(session, &chunk[..count], &mut line, output)?,
-            Err(ReadFault::Interrupted) => {}
-            Err(ReadFault::Failed) => return Err(Broken::Input),
-        }
         if session.is_over() {
+            return Ok(());
+        }
+        if read_some(session, input, &mut line, output)? {
             return Ok(());
         }
     }

@@ -1,11 +1,13 @@
 //! Debugs a program.
 
-ghost use Rattle.std.specs.Prelude.{◌≡◌, ◌≤◌, false, map};
-ghost use Rattle.debugger.specs.Conversation.{Debugs};
+ghost use Rattle.std.specs.Prelude.{◌≡◌, ◌≤◌, IfOk, false, length, map};
+ghost use Rattle.debugger.specs.Conversation.{Debugs, DebugsTo};
+ghost use Rattle.debugger.specs.Labelled.{symbol_parts};
 
-use crate::command::Labels;
+use crate::command::Symbol;
 use crate::conversation::{Broken, MOST_READS, converse};
 use crate::history::History;
+use crate::labels::Labels;
 use crate::session::Session;
 use cpm_console::MemoryConsole;
 use cpm_disk::Disk;
@@ -42,7 +44,7 @@ pub enum DebugFault {
 pub fn debug<I: Input, O: Sink>(
     alloc: Global,
     program: Program<'_>,
-    labels: Labels<'_>,
+    symbols: &[Symbol<'_>],
     commands: &mut I,
     output: &mut O,
 ) -> Result<(), DebugFault>
@@ -50,6 +52,7 @@ pub fn debug<I: Input, O: Sink>(
     requires unread { I.reads commands.old ≡ 0 }
     ensures debugs { Debugs program.entry.file.now (map (λ w. w.now) program.entry.words.now) (O.stream output.old) (O.stream output.new) (I.failed commands.new) (I.reads commands.new) result }
     ensures reads { I.reads commands.new ≤ MOST_READS }
+    ensures debugged { IfOk result (λ _. DebugsTo program.entry.file.now (map (λ w. w.now) program.entry.words.now) program.entry.disk program.entry.typed.items (record { labels = map symbol_parts symbols.now; size = length program.entry.file.now }) program.entry.listing.now (O.stream output.old) (O.stream output.new)) }
 {
     let Program {
         file,
@@ -62,6 +65,10 @@ pub fn debug<I: Input, O: Sink>(
     let history = match History::new(alloc, file, words, disk, console) {
         Ok(history) => history,
         Err(fault) => return Err(DebugFault::Start(fault)),
+    };
+    let labels = match Labels::new(alloc, symbols, file.len()) {
+        Ok(labels) => labels,
+        Err(_) => return Err(DebugFault::Broken(Broken::NoMemory)),
     };
     let mut session = Session::new(alloc, history, labels).with_listing(listing);
     match converse(alloc, &mut session, commands, output) {

@@ -1,6 +1,6 @@
 //! The history of a run.
 
-ghost use Rattle.std.specs.Prelude.{◌≡◌, ◌+◌, ◌-◌, ◌<◌, ◌^◌, option_map};
+ghost use Rattle.std.specs.Prelude.{◌≡◌, ◌+◌, ◌-◌, ◌<◌, ◌^◌, option_map, true};
 ghost use Rattle.std.specs.Option.{option_or};
 
 use crate::calls::{open_call, shown_place};
@@ -11,7 +11,7 @@ use crate::stops::{Goal, Hit, Stops};
 use cpm_console::MemoryConsole;
 use cpm_disk::Disk;
 use cpm_image::MemoryImage;
-use cpm_run::{StartFault, start};
+use cpm_run::{StartFault, Why, start};
 use std::alloc::{AllocError, Global};
 use std::marker::Model;
 
@@ -59,11 +59,18 @@ fn later(last: Option<(u64, Hit)>, held: Option<Hit>, number: u64) -> Option<(u6
     }
 }
 
+/// Whether two runs end for the same reason, or both go on.
+fn is_same_end(one: Option<Why>, other: Option<Why>) -> bool
+    ensures { result ≡ true → one ≡ other }
+{
+    one == other
+}
+
 impl History {
-    ghost use Rattle.std.specs.Prelude.{◌≡◌, ◌+◌, ◌-◌, ◌<◌, ◌≤◌, ◌^◌, Err, IfErr, IfOk, None, OnErr, false, map};
+    ghost use Rattle.std.specs.Prelude.{◌≡◌, ◌+◌, ◌-◌, ◌<◌, ◌≤◌, ◌^◌, Err, IfErr, IfOk, None, OnErr, false, map, true};
     ghost use Rattle.cpm_run.specs.Start.{IsStart};
     ghost use Rattle.debugger.specs.Calls.{IsCallBefore, shown_place};
-    ghost use Rattle.debugger.specs.Stops.{IsLast, hit_at};
+    ghost use Rattle.debugger.specs.Stops.{IsLast, end_at, hit_at};
     ghost use Rattle.debugger.specs.Walk.{IsAfter, IsNextPoint, IsTrue_of_run};
     ghost use Rattle.debugger.specs.Going.{IsFirstShown, RanUntil, ShowsTurn};
 
@@ -205,6 +212,17 @@ impl History {
         Ok(())
     }
 
+    /// Whether the run that is shown ends after this number of turns as it does in a point, or goes on as there.
+    fn ends_so(&self, turn: u64, point: &Point) -> bool
+        ensures { result ≡ true → point.now.end ≡ end_at turn self.now }
+    {
+        if turn == self.turn {
+            is_same_end(point.end(), self.point.end())
+        } else {
+            point.end().is_none()
+        }
+    }
+
     /// The last turn at which a breakpoint or a watched byte holds, among the first turns of the run: its number, and what holds. All
     /// turns are made again from the start.
     ///
@@ -218,7 +236,7 @@ impl History {
         turn: u64,
     ) -> Result<Option<(u64, Hit)>, AllocError>
         requires { turn ≤ self.now.turn }
-        ensures { IfOk result (IsLast stops.now self.now.start turn) }
+        ensures { IfOk result (IsLast stops.now self.now turn) }
     {
         let mut point = Point::first(self.start.copied(alloc)?);
         let mut last = None;
@@ -230,7 +248,11 @@ impl History {
             let held = stops.advance(alloc, None, &mut point)?;
             last = later(last, held, number);
         }
-        Ok(last)
+        if self.ends_so(turn, &point) {
+            Ok(last)
+        } else {
+            Err(AllocError)
+        }
     }
 
     /// The call over which `next` leads to the state that is shown, if there is one: the number of turns before it. All turns are made again
@@ -283,6 +305,9 @@ impl History {
                 return Ok(Outcome::Held(hit));
             }
         }
-        Ok(Outcome::Limit)
+        match self.point.end() {
+            Some(_) => Ok(Outcome::Ended),
+            None => Ok(Outcome::Limit),
+        }
     }
 }

@@ -29,11 +29,19 @@ fn going_copy(alloc: Global, point: &Point) -> Option<Snapshot>
     }
 }
 
-/// States of one run, in their order. All their numbers are multiples of the distance.
+/// The next multiple of a distance.
+fn next_multiple(turn: u64, distance: u64) -> u64 {
+    let over = turn.checked_rem(distance).unwrap_or(0);
+    turn.saturating_sub(over).saturating_add(distance)
+}
+
+/// States of one run, in their order. Their numbers are multiples of the distance, or were when they were kept.
 #[derive(Drop)]
 pub(crate) struct Keeper {
     pub states: Vec<Kept>,
     distance: u64,
+    /// The number of the next state to keep. It is stored, since a division at each turn would slow a run down.
+    next: u64,
 }
 
 impl Keeper {
@@ -48,6 +56,7 @@ impl Keeper {
         Keeper {
             states: Vec::new(alloc),
             distance: FIRST_DISTANCE,
+            next: FIRST_DISTANCE,
         }
     }
 
@@ -59,12 +68,6 @@ impl Keeper {
         self.distance = distance;
         self.states
             .retain(|kept| kept.turn.checked_rem(distance) == Some(0));
-    }
-
-    /// Whether a state with this number is to be kept: it is a multiple of the distance, and after those that are kept.
-    fn wants(&self, turn: u64) -> bool {
-        turn.checked_rem(self.distance) == Some(0)
-            && self.states.last().is_none_or(|kept| kept.turn < turn)
     }
 
     /// Leaves out every second state if there are too many for one more.
@@ -80,9 +83,10 @@ impl Keeper {
     pub(crate) fn keep(&mut self, alloc: Global, turn: u64, point: &Point)
         ensures { (start : MemoryState) → All (IsKept start) self.old.states.items → IsAfter start turn point.now → All (IsKept start) self.new.states.items }
     {
-        if !self.wants(turn) {
+        if turn < self.next {
             return;
         }
+        self.next = next_multiple(turn, self.distance);
         let Some(snapshot) = going_copy(alloc, point) else {
             return;
         };

@@ -1,11 +1,73 @@
 //! Laws of a debugged run, as functions that do nothing.
 
-ghost use Rattle.std.specs.Prelude.{ℕ};
+ghost use Rattle.std.specs.Prelude.{◌≡◌, ℕ, [], List, Option};
+ghost use Rattle.cpm_bdos.specs.Alike.{AlikeDisks};
+ghost use Rattle.cpm_disk.specs.Calls.{Mounted};
+ghost use Rattle.cpm_disk.specs.Image.{Image};
 ghost use Rattle.cpm_run.specs.Run.{TurnsEnd};
-ghost use Rattle.debugger.specs.Walk.{IsAfter, Point, MemoryState, limit_end};
+ghost use Rattle.debugger.specs.Alike.{AlikeHistories, AlikePoints, AlikeStates, IsCalm, ShowsRun};
+ghost use Rattle.debugger.specs.Going.{RanUntil};
+ghost use Rattle.debugger.specs.Session.{Moves};
+ghost use Rattle.debugger.specs.Stops.{IsLast};
+ghost use Rattle.debugger.specs.declared.command.Command.{Command};
+ghost use Rattle.debugger.specs.declared.history.Outcome.{Outcome};
+ghost use Rattle.debugger.specs.declared.stops.Goal.{Goal};
+ghost use Rattle.debugger.specs.declared.stops.Hit.{Hit};
+ghost use Rattle.debugger.specs.declared.stops.Stops.{Stops};
+ghost use Rattle.debugger.specs.Walk.{IsAfter, IsTrue_of_run, Point, MemoryState, Shown, limit_end};
 
 /// What is shown after n turns is what a run leaves that may make n turns: it ends with this state after n turns, because the run ends
 /// there or because of its limit.
 pub fn as_run()
     ensures { (start : MemoryState) (n : ℕ) (p : Point) → IsAfter start n p → TurnsEnd (λ image. image) (λ image. 0) (λ dialog. dialog) n start (limit_end p.end) n p.state }
 {}
+
+/// A run has one state after each number of turns. Two runs that begin in states that look alike are, after as many turns, in states that
+/// look alike: with the same registers, memory, input and output, and the same files on their disks. They go on there, or end for the same
+/// reason. This does not hold of a state in which memory has run out for what the program printed.
+pub fn one_state()
+    ensures { (printed : List ℕ) (start beginning : MemoryState) (n : ℕ) (p q : Point) →
+        AlikeStates printed start beginning → IsCalm p → IsCalm q → IsAfter start n p → IsAfter beginning n q → AlikePoints printed p q }
+{
+    z80_machine::laws::one_turn();
+}
+
+/// What a debugger shows is a function of the program, its words, its disk, its input, and the number of the turn that it was to show. It
+/// does not matter which commands led there, and which states were kept on the way.
+pub fn one_session()
+    ensures { (file : List ℕ) (words : List (List ℕ)) (disk other : Mounted Image) (input : List ℕ) (turn : ℕ) (one two : Shown) →
+        AlikeDisks (λ image. image) disk other → ShowsRun file words disk input turn one → ShowsRun file words other input turn two →
+        (two.turn ≡ one.turn) × AlikePoints [] one.point two.point }
+{
+    z80_machine::laws::one_turn();
+}
+
+/// `run`, `next` and `finish` stop in one place. From points that look alike, with the same goal, breakpoints, watched bytes and limit, they
+/// lead to points that look alike, after as many turns and for the same reason.
+pub fn one_stop()
+    ensures { (printed : List ℕ) (goal : Option Goal) (stops : Stops) (limit : ℕ) (old other new there : Shown) (outcome reason : Outcome) →
+        AlikePoints printed old.point other.point → other.turn ≡ old.turn → IsCalm new.point → IsCalm there.point →
+        RanUntil goal stops limit old new outcome → RanUntil goal stops limit other there reason →
+        (reason ≡ outcome) × (there.turn ≡ new.turn) × AlikePoints printed new.point there.point }
+{
+    z80_machine::laws::one_turn();
+}
+
+/// `who` and `back-run` have one answer: in two histories of runs that begin alike, the same turn is the last of the first n at which
+/// something held, and the same held at it.
+pub fn one_last()
+    ensures { (printed : List ℕ) (stops : Stops) (shown other : Shown) (n : ℕ) (last found : Option (ℕ × Hit)) →
+        AlikeStates printed shown.start other.start → IsCalm shown.point → IsCalm other.point → IsLast stops shown n last → IsLast stops other n found → found ≡ last }
+{
+    z80_machine::laws::one_turn();
+}
+
+/// A command has one answer. Histories of runs that begin alike, and that show the same, show the same after it, and it ends for the same
+/// reason.
+pub fn one_move()
+    ensures { (printed : List ℕ) (command : Command) (stops : Stops) (old other new there : Shown) (told said : Option Outcome) →
+        AlikeHistories printed old other → IsTrue_of_run new → IsTrue_of_run there → new.start ≡ old.start → there.start ≡ other.start → IsCalm old.point → IsCalm new.point → IsCalm there.point →
+        Moves command stops old new told → Moves command stops other there said → (said ≡ told) × AlikeHistories printed new there }
+{
+    z80_machine::laws::one_turn();
+}

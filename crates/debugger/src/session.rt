@@ -4,14 +4,15 @@ ghost use Rattle.std.specs.Prelude.{◌≡◌};
 ghost use Rattle.debugger.specs.Session.{IsRefusedLine, at_place};
 
 use crate::calls::{ReturnPlace, call_place};
-use crate::command::{Command, Labels, command_of};
+use crate::command::{Command, command_of};
 use crate::history::{History, Outcome};
+use crate::labels::Labels;
+use crate::printing::{put_memory, put_registers};
 use crate::stops::{Breakpoint, Condition, Goal, Hit, RegisterName, Stops};
 use crate::text::{
     put_files, put_info, put_instructions, put_new_output, put_outcome, put_output, put_point,
     put_stack, put_where, put_who,
 };
-use debug_text::{put_memory, put_registers};
 use std::alloc::{AllocError, Global};
 
 /// The most turns that one `run` makes.
@@ -60,7 +61,7 @@ pub struct Session<'a> {
     alloc: Global,
     history: History,
     stops: Stops,
-    labels: Labels<'a>,
+    labels: Labels,
     listing: &'a [u8],
     is_over: bool,
 }
@@ -89,12 +90,12 @@ impl<'a> Session<'a> {
     ghost use Rattle.debugger.specs.declared.command.Command.TheVariants as command;
 
     /// A session without breakpoints.
-    pub fn new(alloc: Global, history: History, labels: Labels<'a>) -> Session<'a>
+    pub fn new(alloc: Global, history: History, labels: Labels) -> Session<'a>
         ensures history { result.history ≡ history }
         ensures breakpoints { result.stops.breakpoints.items ≡ [] }
         ensures watches { result.stops.watches.items ≡ [] }
         ensures over { result.is_over ≡ false }
-        ensures labels { result.labels ≡ labels.entry }
+        ensures labels { result.labels ≡ labels }
         ensures listing { result.listing.now ≡ [] }
     {
         Session {
@@ -251,7 +252,7 @@ impl<'a> Session<'a> {
 
     /// The last turn that changed a byte, up to the one that is shown.
     fn last_change(&self, address: u16) -> Result<Option<(u64, Hit)>, AllocError>
-        ensures { IfOk result (λ last. (stops : TheStops) × Watches address stops × IsLast stops self.now.history.start self.now.history.turn last) }
+        ensures { IfOk result (λ last. (stops : TheStops) × Watches address stops × IsLast stops self.now.history self.now.history.turn last) }
     {
         let mut stops = Stops::new(self.alloc);
         stops.watches.push(address)?;
@@ -387,7 +388,7 @@ impl<'a> Session<'a> {
     {
         let words = std::str::from_utf8(line).unwrap_or("");
         let printed = self.history.point().snapshot().output().len();
-        match command_of(self.alloc, words, self.labels.symbols)? {
+        match command_of(self.alloc, words, &self.labels)? {
             Some(command) => {
                 let told = self.obey(command)?;
                 self.said(command, told, printed)

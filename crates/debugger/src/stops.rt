@@ -4,6 +4,7 @@ ghost use Rattle.std.specs.Prelude.{◌≡◌, ◌++◌, ℕ, IfOk, List, None, 
 ghost use Rattle.std.specs.Option.{option_or};
 ghost use Rattle.cpm_run.specs.Turns.{place_at_pc};
 ghost use Rattle.z80_cpu.specs.State.{byte_at};
+ghost use Rattle.z80_cpu.specs.declared.registers.Cpu.{Cpu as TheCpu};
 ghost use Rattle.debugger.specs.Session.{addresses};
 ghost use Rattle.debugger.specs.Stops.{breaks, broken, changed, condition_is_met, has_returned, is_reached, is_return_code, may_return, sp_returned};
 ghost use Rattle.debugger.specs.declared.stops.Hit.TheVariants as hit;
@@ -179,6 +180,18 @@ fn sp_returned(snapshot: &Snapshot) -> Option<u16>
     }
 }
 
+/// SP after the return, if that decides whether the goal is reached by a turn that begins in this state. Other goals do not ask for it, and
+/// most turns have none, so memory is not read for them.
+fn return_for(goal: Option<Goal>, snapshot: &Snapshot) -> Option<u16>
+    ensures { (cpu : TheCpu) → is_reached goal result cpu ≡ is_reached goal (sp_returned snapshot.now) cpu }
+{
+    match goal {
+        Some(Goal::ReturnAbove(_)) => sp_returned(snapshot),
+        Some(Goal::At(_)) => None,
+        None => None,
+    }
+}
+
 /// Whether SP has this value by a return, and lies above another value.
 fn has_returned(above: u16, returned: Option<u16>, sp: u16) -> bool
     ensures { result ≡ has_returned above returned sp }
@@ -305,7 +318,7 @@ impl Stops {
         ensures kept { OnErr result (point.new ≡ point.old) }
     {
         let bytes = bytes_at(alloc, &self.watches, point.snapshot().memory())?;
-        let returned = sp_returned(point.snapshot());
+        let returned = return_for(goal, point.snapshot());
         let by = point.snapshot().cpu().pc;
         point.advance();
         let snapshot = point.snapshot();

@@ -2,11 +2,12 @@
 
 ghost use Rattle.std.specs.Prelude.{◌≡◌, ◌++◌, ◌∷◌, [], OnOk, option_map};
 ghost use Rattle.hex.specs.Hex.{encode_upper};
-ghost use Rattle.debugger.specs.Text.{labelled_address, change_line, label_before, label_and_offset, listing_text, line_with, nearer, offset_text, values_text, where_text, who_text};
+ghost use Rattle.debugger.specs.Text.{labelled_address, change_line, label_after, listing_text, line_with, values_text, where_text, who_text};
 
-use crate::command::{Labels, Symbol};
 use crate::history::Outcome;
+use crate::labels::{Labels, put_label};
 use crate::point::Point;
+use crate::printing::{put_word, shown_character};
 use crate::session::MOST_TURNS;
 use crate::snapshot::Snapshot;
 use crate::stops::{Breakpoint, Change, Hit, Stops};
@@ -14,7 +15,6 @@ use bstr::ByteSlice;
 use cpm_disk::Disk;
 use cpm_image::MemoryImage;
 use cpm_run::{BDOS, BIOS, bios_entry, is_finished};
-use debug_text::{put_word, shown_character};
 use std::alloc::{AllocError, Global};
 use z80_cpu::{Cpu, Memory};
 use z80_table::decode;
@@ -75,86 +75,38 @@ fn instruction(
     }
 }
 
-/// The nearer of two labels to an address: the last one that is not after it, and not before the one found.
-fn nearer<'a>(address: u16, found: Option<Symbol<'a>>, symbol: Symbol<'a>) -> Option<Symbol<'a>>
-    ensures { result ≡ nearer address found.entry symbol.entry }
-{
-    match found {
-        Some(before) => {
-            if before.address <= symbol.address && symbol.address <= address {
-                Some(symbol)
-            } else {
-                Some(before)
-            }
-        }
-        None => {
-            if symbol.address <= address {
-                Some(symbol)
-            } else {
-                None
-            }
-        }
-    }
-}
-
-/// The last label at the highest address up to this one, unless this one is beyond the program.
-fn label_before<'a>(labels: &Labels<'a>, address: u16) -> Option<Symbol<'a>>
-    ensures { result ≡ label_before labels.now address }
-{
-    if usize::from(address) >= labels.program_len.saturating_add(0x0100) {
-        return None;
-    }
-    let mut found = None;
-    for symbol in labels.symbols {
-        found = nearer(address, found, *symbol);
-    }
-    found
-}
-
-/// Appends the distance from a label in decimal, as in `+5`.
-fn put_offset(alloc: Global, offset: u16, text: &mut Vec<u8>) -> Result<(), AllocError>
-    ensures { OnOk result (text.new.items ≡ text.old.items ++ offset_text offset) }
-{
-    if offset == 0 {
-        return Ok(());
-    }
-    text.extend_from_slice(format!(in alloc; "+{offset}")?.as_bytes())
-}
-
-/// Appends a label and the distance from it.
-fn put_label(
+/// Appends a blank and a label with the distance from it, if there is one.
+fn put_label_after(
     alloc: Global,
-    symbol: Option<Symbol<'_>>,
-    address: u16,
+    label: Option<(&[u8], u16)>,
     text: &mut Vec<u8>,
 ) -> Result<(), AllocError>
-    ensures { OnOk result (text.new.items ≡ text.old.items ++ label_and_offset symbol.entry address) }
+    ensures { OnOk result (text.new.items ≡ text.old.items ++ label_after (option_map (λ found. (found.0.now, found.1)) label.entry)) }
 {
-    let Some(symbol) = symbol else {
+    let Some((name, offset)) = label else {
         return Ok(());
     };
     text.extend_from_slice(b" ")?;
-    text.extend_from_slice(symbol.name)?;
-    put_offset(alloc, address.saturating_sub(symbol.address), text)
+    put_label(alloc, text, name, offset)
 }
 
 /// An address in four hexadecimal digits, with its label.
 pub(crate) fn put_address(
     alloc: Global,
-    labels: &Labels<'_>,
+    labels: &Labels,
     address: u16,
     text: &mut Vec<u8>,
 ) -> Result<(), AllocError>
     ensures { OnOk result (text.new.items ≡ text.old.items ++ labelled_address labels.now address) }
 {
     put_word(alloc, text, address)?;
-    put_label(alloc, label_before(labels, address), address, text)
+    put_label_after(alloc, labels.find(address), text)
 }
 
 /// The line of the point that is shown: the number of turns, PC and its label, and the instruction there or the end of the run.
 pub(crate) fn put_point(
     alloc: Global,
-    labels: &Labels<'_>,
+    labels: &Labels,
     turn: u64,
     point: &Point,
     text: &mut Vec<u8>,
@@ -194,7 +146,7 @@ fn put_values(alloc: Global, change: Change, text: &mut Vec<u8>) -> Result<(), A
 /// A changed byte: its address, its values before and after, and the instruction that changed it.
 pub(crate) fn put_change(
     alloc: Global,
-    labels: &Labels<'_>,
+    labels: &Labels,
     change: Change,
     text: &mut Vec<u8>,
 ) -> Result<(), AllocError>
@@ -210,7 +162,7 @@ pub(crate) fn put_change(
 /// The line of the last turn that changed a byte, if one has.
 pub(crate) fn put_who(
     alloc: Global,
-    labels: &Labels<'_>,
+    labels: &Labels,
     last: Option<(u64, Hit)>,
     text: &mut Vec<u8>,
 ) -> Result<(), AllocError>
@@ -228,7 +180,7 @@ pub(crate) fn put_who(
 /// Why a command has stopped before the end of the run, unless it has come to where it was to come.
 pub(crate) fn put_outcome(
     alloc: Global,
-    labels: &Labels<'_>,
+    labels: &Labels,
     told: Option<Outcome>,
     text: &mut Vec<u8>,
 ) -> Result<(), AllocError> {
@@ -253,7 +205,7 @@ pub(crate) fn put_outcome(
 /// The line of a breakpoint.
 fn put_breakpoint(
     alloc: Global,
-    labels: &Labels<'_>,
+    labels: &Labels,
     breakpoint: &Breakpoint,
     text: &mut Vec<u8>,
 ) -> Result<(), AllocError> {
@@ -269,7 +221,7 @@ fn put_breakpoint(
 /// The line of watched bytes that follow each other, if there are some.
 fn put_watched(
     alloc: Global,
-    labels: &Labels<'_>,
+    labels: &Labels,
     from: u16,
     count: u16,
     text: &mut Vec<u8>,
@@ -288,7 +240,7 @@ fn put_watched(
 /// The lines of the breakpoints and of the watched bytes, in the order in which they were set.
 pub(crate) fn put_info(
     alloc: Global,
-    labels: &Labels<'_>,
+    labels: &Labels,
     stops: &Stops,
     text: &mut Vec<u8>,
 ) -> Result<(), AllocError> {
@@ -348,7 +300,7 @@ pub(crate) fn put_new_output(
 /// The lines of instructions: the address and its label, and the instruction.
 pub(crate) fn put_instructions(
     alloc: Global,
-    labels: &Labels<'_>,
+    labels: &Labels,
     snapshot: &Snapshot,
     from: u16,
     count: u16,
@@ -369,7 +321,7 @@ pub(crate) fn put_instructions(
 /// The lines of the eight words on top of the stack: SP, the word, and the word as an address with its label.
 pub(crate) fn put_stack(
     alloc: Global,
-    labels: &Labels<'_>,
+    labels: &Labels,
     snapshot: &Snapshot,
     text: &mut Vec<u8>,
 ) -> Result<(), AllocError> {
@@ -446,7 +398,7 @@ fn put_line(line: Option<&[u8]>, text: &mut Vec<u8>) -> Result<(), AllocError>
 /// An address with its label, and its line of the listing.
 pub(crate) fn put_where(
     alloc: Global,
-    labels: &Labels<'_>,
+    labels: &Labels,
     listing: &[u8],
     address: u16,
     text: &mut Vec<u8>,

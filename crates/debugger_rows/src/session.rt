@@ -29,9 +29,9 @@ fn answer_commands(row: &mut Row, program: Debugged<'_>, labels: &str, commands:
         row.refuse("the program does not start");
         return;
     };
-    let labels = Labels {
-        symbols: &symbols,
-        program_len: program.file.len(),
+    let Ok(labels) = Labels::new(alloc, &symbols, program.file.len()) else {
+        row.refuse("no memory");
+        return;
     };
     let mut session = Session::new(alloc, history, labels);
     for command in commands {

@@ -66,7 +66,7 @@ fn regs_of(row: &mut Row) -> Option<Vec<u8>> {
     let input = input_of(row)?;
     let wish = Wish {
         first: 0,
-        last: 2,
+        last: 3,
         counts: false,
     };
     let Run { traced, labels } = run_of(row, input, wish)?;

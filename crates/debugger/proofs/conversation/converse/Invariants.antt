@@ -1,4 +1,5 @@
 use Rattle.std.proofs.Common.{◌≡◌, false}
+use Rattle.debugger.specs.Conversation.{TalksOn}
 use Rattle.debugger.specs.Walk.{IsTrue_of_run}
 use Rattle.debugger.proofs.conversation.converse.Given as goal
 
@@ -6,6 +7,9 @@ abbrev pub invariant-loop : goal.invariant-loop
 invariant-loop g l = record {
   start : l.session.history.start ≡ l.initial.session.history.start;
   after : IsTrue_of_run l.session.history;
+  labels : l.session.labels ≡ l.initial.session.labels;
+  listing : l.session.listing ≡ l.initial.session.listing;
+  talks : TalksOn l.initial.session.labels l.initial.session.listing.now (record { shown = l.initial.session.history; stops = l.initial.session.stops; is_over = l.initial.session.is_over }) (record { shown = l.session.history; stops = l.session.stops; is_over = l.session.is_over }) (g.O.Sink.stream l.initial.output) (g.O.Sink.stream l.output);
   failures : (g.O.Sink.stream l.output).failures ≡ (g.O.Sink.stream l.initial.output).failures;
   failed : g.I.Input.failed l.input ≡ false;
   reads : g.I.Input.reads l.input ≡ l.counter;

@@ -23,7 +23,7 @@ loop-number-preserved c =
       all = go_on start n c.loop-number.point c.advance.new.point c.loop-number.invariant.all c.in_ok-held.ensures.next;
     }
 
-pub returns : goal.returns
-returns c =
+pub returns-then-ends_so : goal.returns-then-ends_so
+returns-then-ends_so c =
     let e : c.loop-number.number ≡ c.args.turn = omega arith in
-    (c.loop-number.point, subst (λ (n : ℕ). IsLastBefore c.args.stops.now c.args.self.now.start n c.loop-number.point c.loop-number.last) e c.loop-number.invariant.known)
+    (c.loop-number.point, c.ends_so.ensures c.if-ends_so.true, subst (λ (n : ℕ). IsLastBefore c.args.stops.now c.args.self.now.start n c.loop-number.point c.loop-number.last) e c.loop-number.invariant.known)

@@ -8,4 +8,4 @@ pub returns : goal.returns
 returns c =
     let stops : Stops = record { breakpoints = c.new-stops.result.breakpoints; watches = c.push.new.self } in
     let watched = c.in_ok-push.ensures.items ∙ ap (λ (ws : List ℕ). ws ++ c.args.address ∷ []) c.new-stops.ensures.watches in
-    IfOk-weaker c.last.result _ _ (λ last known. (stops, (c.new-stops.ensures.breakpoints, watched), subst (λ (n : ℕ). IsLast stops c.args.self.now.history.start n last) c.turn.ensures.turn known)) c.last.ensures
+    IfOk-weaker c.last.result _ _ (λ last known. (stops, (c.new-stops.ensures.breakpoints, watched), subst (λ (n : ℕ). IsLast stops c.args.self.now.history n last) c.turn.ensures.turn known)) c.last.ensures

@@ -1,0 +1,231 @@
+-- A run has one state after each number of turns, as far as anybody can see it.
+use Rattle.std.proofs.Common.{◌≡◌, ◌≢◌, ◌+◌, ◌<◌, ◌⊎◌, ℕ, Bool, false, List, [], Option, Some, None, Result, Ok, Err, refl, sym, ap, subst, ◌∙◌, inl, inr, arith}
+use Rattle.std.specs.Prelude.{if◌then◌else◌}
+use Rattle.std.proofs.lemmas.Bool.{cases_eq, cases_lt}
+use Rattle.z80_cpu.specs.State.{Machine, machine}
+use Rattle.z80_cpu.specs.Stack.{returned}
+use Rattle.z80_cpu.specs.declared.registers.Cpu.{Cpu}
+use Rattle.z80_machine.specs.Turn.{IsStep}
+use Rattle.z80_machine.specs.Types.{Step}
+use Rattle.cpm_bdos.proofs.OneCall.{one_known, one_known_entry}
+use Rattle.cpm_bdos.specs.Alike.{AlikeDisks, AlikeSystems, HasNotFailed}
+use Rattle.cpm_bdos.specs.Functions.{bios_entry_of, function_of}
+use Rattle.cpm_bdos.specs.System.{new_system}
+use Rattle.cpm_bdos.specs.declared.outcome.After.{After}
+use Rattle.cpm_bdos.specs.declared.outcome.After.TheVariants as after
+use Rattle.cpm_console.specs.Dialog.{Dialog, dialog_of}
+use Rattle.cpm_disk.specs.Calls.{Mounted}
+use Rattle.cpm_disk.specs.Image.{Image}
+use Rattle.cpm_fcb.specs.declared.stop.Stop.{Stop}
+use Rattle.cpm_fcb.specs.declared.stop.Stop.TheVariants as stop
+use Rattle.cpm_run.specs.Turns.{Call, Comes, Entry, Place, Program, TurnAt, is_finished, place_at_pc, step_end}
+use Rattle.cpm_run.specs.Undisturbed.{IsUndisturbed}
+use Rattle.cpm_run.specs.declared.ending.Why.{Why}
+use Rattle.cpm_run.specs.declared.ending.Why.TheVariants as why
+use Rattle.debugger.specs.Alike.{AlikePoints, AlikeStates, IsCalm, ShowsRun}
+use Rattle.debugger.specs.Going.{IsFirstShown, ShowsTurn}
+use Rattle.debugger.specs.Walk.{IsAfter, IsNextPoint, IsTrue_of_run, LeadsBy, MakesTurn, MemoryState, Point, Shown, end_after, first_point, limit_end, never}
+use Rattle.debugger.specs.Walk.LeadsBy.{none, more}
+
+-- the law that a machine has one step
+abbrev pub OneStep : Type 0
+OneStep = (one two : Step) (old new other : Machine) → IsStep one old new → IsStep two old other → (one ≡ two) × (new ≡ other)
+
+-- ---- one turn
+
+-- a turn or a run does not end because the disk or the console failed
+abbrev pub Goes_well : Option Why → Type 0
+Goes_well end = (end ≢ Some (why.Stopped stop.DiskFault)) × (end ≢ Some (why.Stopped stop.ConsoleFault))
+
+pub calm_well : (end : Option Why) → IsUndisturbed (limit_end end) → Goes_well end
+calm_well end calm = (λ e. calm.disk (ap limit_end e), λ e. calm.console (ap limit_end e))
+
+pub none_well : (end : Option Why) → end ≡ None → Goes_well end
+none_well end e = (
+  λ f. absurd (let no_end : ◌≡◌ {A = Option Why} None (Some (why.Stopped stop.DiskFault)) = sym e ∙ f in cc),
+  λ f. absurd (let no_end : ◌≡◌ {A = Option Why} None (Some (why.Stopped stop.ConsoleFault)) = sym e ∙ f in cc),
+)
+
+turn_well : (by end : Option Why) (s : MemoryState) → end ≡ end_after by s → Goes_well end → Goes_well by
+turn_well by end s is well = (λ e. well.0 (is ∙ ap (λ o. end_after o s) e), λ e. well.1 (is ∙ ap (λ o. end_after o s) e))
+
+-- what a call is followed by, as functions of its answer
+comes_end : Result After Stop → Option Why
+comes_end (Ok after.Return) = None
+comes_end (Ok after.WarmBoot) = Some why.Finished
+comes_end (Err stop) = Some (why.Stopped stop)
+
+comes_machine : Cpu → List ℕ → Result After Stop → Machine
+comes_machine cpu memory (Ok after.Return) = machine (returned memory cpu) memory
+comes_machine cpu memory (Ok after.WarmBoot) = machine cpu memory
+comes_machine cpu memory (Err stop) = machine cpu memory
+
+came : (answer : Result After Stop) (cpu : Cpu) (memory : List ℕ) (end : Option Why) (new : Machine) → Comes answer cpu memory end new → (end ≡ comes_end answer) × (new ≡ comes_machine cpu memory answer)
+unfolding comes_end comes_machine
+came (Ok after.Return) cpu memory end new h = h
+came (Ok after.WarmBoot) cpu memory end new h = h
+came (Err stop) cpu memory end new h = h
+
+came_well : (answer : Result After Stop) (end : Option Why) → end ≡ comes_end answer → Goes_well end → HasNotFailed answer
+unfolding comes_end
+came_well answer end is well = (λ e. well.0 (is ∙ ap comes_end e), λ e. well.1 (is ∙ ap comes_end e))
+
+abbrev image_is : Image → Image
+image_is image = image
+
+abbrev no_faults : Image → ℕ
+no_faults image = 0
+
+abbrev dialog_is : Dialog → Dialog
+dialog_is dialog = dialog
+
+-- a state with the machine of another
+abbrev pub with_machine : Machine → MemoryState → MemoryState
+with_machine m s = record { machine = m; system = s.system }
+
+turn_at : OneStep → (printed : List ℕ) (place : Place) (a b x y : MemoryState) (o p : Option Why) → AlikeSystems image_is dialog_is (Some printed) a.system b.system → Goes_well o → Goes_well p
+    → TurnAt image_is no_faults dialog_is place a o x → TurnAt image_is no_faults dialog_is place (with_machine a.machine b) p y → (p ≡ o) × AlikeStates printed x y
+turn_at one_step printed Call a b x y o p alike well fine one two =
+    let s = came one.0 one.1 one.2 o x.machine one.4 in
+    let t = came two.0 two.1 two.2 p y.machine two.4 in
+    let both = one_known image_is no_faults dialog_is (Some printed) a.system b.system x.system y.system alike (function_of a.machine.cpu.main.c) a.machine.cpu one.1 two.1 a.machine.memory one.2 two.2 one.0 two.0
+    (came_well one.0 o s.0 well) (came_well two.0 p t.0 fine) one.3 two.3 in (
+      t.0 ∙ ap comes_end both.0 ∙ sym s.0,
+      record {
+        machine = t.1 ∙ ap (comes_machine two.1 two.2) both.0 ∙ ap (λ c. comes_machine c two.2 one.0) both.1 ∙ ap (λ m. comes_machine one.1 m one.0) both.2 ∙ sym s.1;
+        system = both.3;
+      },
+    )
+turn_at one_step printed (Entry n) a b x y o p alike well fine one two =
+    let s = came one.0 one.1 a.machine.memory o x.machine one.3 in
+    let t = came two.0 two.1 a.machine.memory p y.machine two.3 in
+    let both = one_known_entry image_is no_faults dialog_is (Some printed) a.system b.system x.system y.system alike (bios_entry_of n) n a.machine.cpu one.1 two.1 one.0 two.0
+    (came_well one.0 o s.0 well) (came_well two.0 p t.0 fine) one.2 two.2 in (
+      t.0 ∙ ap comes_end both.0 ∙ sym s.0,
+      record {
+        machine = t.1 ∙ ap (comes_machine two.1 a.machine.memory) both.0 ∙ ap (λ c. comes_machine c a.machine.memory one.0) both.1 ∙ sym s.1;
+        system = both.2;
+      },
+    )
+turn_at one_step printed Program a b x y o p alike well fine one two =
+    let both = one_step one.0 two.0 a.machine x.machine y.machine one.1 two.1 in (
+      two.3 ∙ ap step_end (sym both.0) ∙ sym one.3,
+      record {
+        machine = sym both.1;
+        system = subst (AlikeSystems image_is dialog_is (Some printed) x.system) (sym two.2) (subst (λ s. AlikeSystems image_is dialog_is (Some printed) s b.system) (sym one.2) alike);
+      },
+    )
+
+-- a turn from states that look alike
+one_turn : OneStep → (printed : List ℕ) (a b x y : MemoryState) (o p : Option Why) → AlikeStates printed a b → Goes_well o → Goes_well p → MakesTurn a o x → MakesTurn b p y → (p ≡ o) × AlikeStates printed x y
+one_turn one_step printed a b x y o p alike well fine one two =
+    turn_at one_step printed (place_at_pc a.machine.cpu.pc) a b x y o p alike.system well fine one
+    (subst (λ (m : Machine). MakesTurn (with_machine m b) p y) alike.machine two)
+
+same_end : (by : Option Why) (s t : MemoryState) → t.machine ≡ s.machine → end_after by t ≡ end_after by s
+same_end (Some end) s t e = refl
+same_end None s t e = ap (λ (m : Machine). if is_finished m.cpu.pc then Some why.Finished else None) e
+
+pub one_next : OneStep → (printed : List ℕ) (a b x y : Point) → AlikeStates printed a.state b.state → Goes_well x.end → Goes_well y.end → IsNextPoint a x → IsNextPoint b y → AlikePoints printed x y
+one_next one_step printed a b x y alike well fine one two =
+    let both = one_turn one_step printed a.state b.state x.state y.state one.by two.by alike (turn_well one.by x.end x.state one.ends well) (turn_well two.by y.end y.state two.ends fine) one.turns two.turns in
+    record {
+      states = both.1;
+      ends = two.ends ∙ ap (λ o. end_after o y.state) both.0 ∙ same_end one.by x.state y.state both.1.machine ∙ sym one.ends;
+    }
+
+-- ---- many turns
+
+abbrev pub Test : Type 0
+Test = MemoryState → MemoryState → Bool
+
+-- the last of some turns, if there are any
+pub last_of : (test : Test) {n : ℕ} {a x : Point} → LeadsBy test n a x
+    → ((n ≡ 0) × (x ≡ a)) ⊎ ((m : ℕ) × (last : Point) × (n ≡ m + 1) × LeadsBy test m a last × IsNextPoint last x × (test last.state x.state ≡ false))
+last_of test (none p) = inl (refl, refl)
+last_of test (more m old last new before next fails) = inr (m, last, refl, before, next, fails)
+
+pub same_walk : (one_step : OneStep) (printed : List ℕ) (test other : Test) {n : ℕ} {a x : Point} (b y : Point) → AlikePoints printed a b → Goes_well x.end → Goes_well y.end
+    → LeadsBy test n a x → LeadsBy other n b y → AlikePoints printed x y
+same_walk one_step printed test other b y alike well fine (none p) two = at_start (last_of other two) where
+  at_start : (◌≡◌ {A = ℕ} 0 0 × (y ≡ b)) ⊎ ((m : ℕ) × (last : Point) × ◌≡◌ {A = ℕ} 0 (m + 1) × LeadsBy other m b last × IsNextPoint last y × (other last.state y.state ≡ false)) → AlikePoints printed p y
+  at_start (inl h) = subst (AlikePoints printed p) (sym h.1) alike
+  at_start (inr h) = absurd (let e = h.2 in omega (arith, e))
+same_walk one_step printed test other b y alike well fine (more m old last new before next fails) two =
+    after_more (λ z rest walk. same_walk one_step printed test other b z alike (none_well last.end next.goes) rest before walk) (last_of other two) where
+      after_more : ((z : Point) → Goes_well z.end → LeadsBy other m b z → AlikePoints printed last z)
+          → ((m + 1 ≡ 0) × (y ≡ b)) ⊎ ((k : ℕ) × (there : Point) × (m + 1 ≡ k + 1) × LeadsBy other k b there × IsNextPoint there y × (other there.state y.state ≡ false)) → AlikePoints printed new y
+      after_more again (inl h) = absurd (let e = h.0 in omega (arith, e))
+      after_more again (inr h) =
+          let e : h.0 ≡ m = let both = h.2 in omega (arith, both) in
+          let lasts = again h.1 (none_well h.1.end h.4.goes) (subst (λ k. LeadsBy other k b h.1) e h.3) in
+          one_next one_step printed last h.1 new y lasts.states well fine next h.4
+
+-- a point on the way, in which the run goes on
+pub on_the_way : (test : Test) {n : ℕ} {a x : Point} (k : ℕ) → k < n → LeadsBy test n a x → (mid : Point) × (next : Point) × LeadsBy test k a mid × IsNextPoint mid next × (test mid.state next.state ≡ false)
+on_the_way test k below (none p) = absurd (omega (arith, below))
+on_the_way test k below (more m old last new before next fails) = elim (cases_eq k m) [
+  | inl e ↦ (last, new, subst (λ j. LeadsBy test j old last) (sym e) before, next, fails)
+  | inr other ↦ on_the_way test k (omega (arith, below, other)) before
+]
+
+-- ---- a run from its start
+
+pub first_points : (printed : List ℕ) (start beginning : MemoryState) → AlikeStates printed start beginning → AlikePoints printed (first_point start) (first_point beginning)
+first_points printed start beginning alike = record { states = alike; ends = same_end None start beginning alike.machine }
+
+pub one_state : OneStep → (printed : List ℕ) (start beginning : MemoryState) (n : ℕ) (p q : Point) → AlikeStates printed start beginning → IsCalm p → IsCalm q → IsAfter start n p → IsAfter beginning n q → AlikePoints printed p q
+one_state one_step printed start beginning n p q alike calm quiet one two =
+    same_walk one_step printed never never (first_point beginning) q (first_points printed start beginning alike) (calm_well p.end calm) (calm_well q.end quiet) one two
+
+-- a run that has ended after some turns has no more of them, in whichever of the two it is
+no_more : {A : Type 0} → OneStep → (printed : List ℕ) (start beginning : MemoryState) (k n : ℕ) (p q : Point) → AlikeStates printed start beginning → k < n → IsCalm q → q.end ≢ None → IsAfter start n p → IsAfter beginning k q → A
+no_more one_step printed start beginning k n p q alike below quiet ended one two =
+    let mid = on_the_way never k below one in
+    let same = same_walk one_step printed never never (first_point beginning) q (first_points printed start beginning alike) (none_well mid.0.end mid.3.goes) (calm_well q.end quiet) mid.2 two in
+    absurd (ended (same.ends ∙ mid.3.goes))
+
+nor_more : {A : Type 0} → OneStep → (printed : List ℕ) (start beginning : MemoryState) (k n : ℕ) (p q : Point) → AlikeStates printed start beginning → k < n → IsCalm p → p.end ≢ None → IsAfter start k p → IsAfter beginning n q → A
+nor_more one_step printed start beginning k n p q alike below calm ended one two =
+    let mid = on_the_way never k below two in
+    let same = same_walk one_step printed never never (first_point beginning) mid.0 (first_points printed start beginning alike) (calm_well p.end calm) (none_well mid.0.end mid.3.goes) one mid.2 in
+    absurd (ended (sym same.ends ∙ mid.3.goes))
+
+pub one_number : OneStep → (printed : List ℕ) (turn : ℕ) (new there : Shown) → AlikeStates printed new.start there.start → IsCalm new.point → IsCalm there.point → IsTrue_of_run new → IsTrue_of_run there
+    → ShowsTurn turn new → ShowsTurn turn there → there.turn ≡ new.turn
+one_number one_step printed turn new there alike calm quiet one two (inl h) (inl k) = k ∙ sym h
+one_number one_step printed turn new there alike calm quiet one two (inl h) (inr k) =
+    no_more one_step printed new.start there.start there.turn new.turn new.point there.point alike (let below = k.0 in omega (arith, h, below)) quiet k.1 one two
+one_number one_step printed turn new there alike calm quiet one two (inr h) (inl k) =
+    nor_more one_step printed new.start there.start new.turn there.turn new.point there.point alike (let below = h.0 in omega (arith, k, below)) calm h.1 one two
+one_number one_step printed turn new there alike calm quiet one two (inr h) (inr k) = elim (cases_lt new.turn there.turn) [
+  | inl sooner ↦ nor_more one_step printed new.start there.start new.turn there.turn new.point there.point alike sooner calm h.1 one two
+  | inr later ↦ elim (cases_eq new.turn there.turn) [
+    | inl e ↦ sym e
+    | inr other ↦ no_more one_step printed new.start there.start there.turn new.turn new.point there.point alike (omega (arith, later, other)) quiet k.1 one two
+  ]
+]
+
+-- ---- a session
+
+-- two runs of one program with the same input begin alike on disks that look alike
+begin_alike : (file : List ℕ) (words : List (List ℕ)) (disk other : Mounted Image) (input : List ℕ) (one two : Shown) → AlikeDisks image_is disk other
+    → IsFirstShown file words disk (dialog_of input (Some []) 0) one → IsFirstShown file words other (dialog_of input (Some []) 0) two → AlikeStates [] one.start two.start
+begin_alike file words disk other input one two disks h k =
+    let cpus : k.0 ≡ h.0 = k.2.2 ∙ sym h.2.2 in
+    let memories : k.1 ≡ h.1 = k.2.3 ∙ sym h.2.3 in
+    let start : MemoryState = record { machine = machine h.0 h.1; system = new_system disk (dialog_of input (Some []) 0) } in
+    let beginning : MemoryState = record { machine = machine k.0 k.1; system = new_system other (dialog_of input (Some []) 0) } in
+    let alike : AlikeStates [] start beginning = record {
+      machine = ap (λ c. machine c k.1) cpus ∙ ap (machine h.0) memories;
+      system = record { disk = disks; screen = record { dialog = record { input = refl; output = ([], refl, refl); faults = refl }; column = refl }; dma = refl; user = refl; search = refl; within = omega arith };
+    } in
+    subst (λ (s : MemoryState). AlikeStates [] s two.start) (sym h.3) (subst (λ (s : MemoryState). AlikeStates [] start s) (sym k.3) alike)
+
+pub one_session : OneStep → (file : List ℕ) (words : List (List ℕ)) (disk other : Mounted Image) (input : List ℕ) (turn : ℕ) (one two : Shown) → AlikeDisks image_is disk other
+    → ShowsRun file words disk input turn one → ShowsRun file words other input turn two → (two.turn ≡ one.turn) × AlikePoints [] one.point two.point
+one_session one_step file words disk other input turn one two disks h k =
+    let begun = begin_alike file words disk other input h.first k.first disks h.begins k.begins in
+    let starts : AlikeStates [] one.start two.start = subst (λ (s : MemoryState). AlikeStates [] s two.start) (sym h.start) (subst (λ (s : MemoryState). AlikeStates [] h.first.start s) (sym k.start) begun) in
+    let number = one_number one_step [] turn one two starts h.calm k.calm h.after k.after h.reached k.reached in
+    (number, one_state one_step [] one.start two.start one.turn one.point two.point starts h.calm k.calm h.after (subst (λ (n : ℕ). IsAfter two.start n two.point) number k.after))

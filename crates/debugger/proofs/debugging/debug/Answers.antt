@@ -1,0 +1,31 @@
+use Rattle.std.proofs.Common.{◌∙◌, ap, length, map, subst, sym, false, Some, []}
+use Rattle.cpm_console.specs.Dialog.{Dialog, dialog_of}
+use Rattle.debugger.specs.Conversation.{SessionState, TalksOn}
+use Rattle.debugger.specs.Going.{IsFirstShown}
+use Rattle.debugger.specs.Labelled.{Known, symbol_parts}
+use Rattle.debugger.specs.Walk.{Shown}
+use Rattle.debugger.specs.declared.stops.Stops.{Stops}
+use Rattle.debugger.proofs.debugging.debug.Goals as goal
+
+pub returns-in-Ok-converse-clause-debugged : goal.returns-in-Ok-converse-clause-debugged
+returns-in-Ok-converse-clause-debugged g c =
+    let file = c.args.program.file.now in
+    let words = map (λ w. w.now) c.args.program.words.now in
+    let begun = c.with_listing-session.result in
+    let history = c.with_listing-session.ensures.history ∙ c.new-3.ensures.history in
+    let labels = c.with_listing-session.ensures.labels ∙ c.new-3.ensures.labels ∙ c.in-Ok-new.ensures in
+    let before = g.O.Sink.stream c.args.output.now in
+    let after = g.O.Sink.stream c.converse.new.output in
+    let last : SessionState = record { shown = c.converse.new.session.history; stops = c.converse.new.session.stops; is_over = c.converse.new.session.is_over } in
+    let talks = subst (λ (known : Known). TalksOn known begun.listing.now (record { shown = begun.history; stops = begun.stops; is_over = begun.is_over }) last before after) labels c.in-Ok-converse.ensures.talks in
+    let known : Known = record { labels = map symbol_parts c.args.symbols.now; size = length file } in
+    let first = subst (λ (d : Dialog). IsFirstShown file words c.args.program.disk d c.in-Ok.history) c.new-console.ensures c.in-Ok.ensures.begins in (
+      begun.history,
+      begun.stops,
+      last,
+      subst (λ (h : Shown). IsFirstShown file words c.args.program.disk (dialog_of c.args.program.typed.items (Some []) 0) h) (sym history) first,
+      ap (λ (s : Stops). s.breakpoints.items) c.with_listing-session.ensures.stops ∙ c.new-3.ensures.breakpoints,
+      ap (λ (s : Stops). s.watches.items) c.with_listing-session.ensures.stops ∙ c.new-3.ensures.watches,
+      subst (λ l. TalksOn known l.now (record { shown = begun.history; stops = begun.stops; is_over = false }) last before after) c.with_listing-session.ensures.listing
+          (subst (λ b. TalksOn known begun.listing.now (record { shown = begun.history; stops = begun.stops; is_over = b }) last before after) (c.with_listing-session.ensures.over ∙ c.new-3.ensures.over) talks),
+    )

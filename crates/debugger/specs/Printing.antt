@@ -1,0 +1,4 @@
+-- How a debugger and a trace show numbers, registers and memory.
+pub mod Columns
+pub mod Memory
+pub mod Registers
