@@ -19,7 +19,8 @@ const UNDEFINED: &str = "`DEBUG EQU 0` and `IF DEBUG EQ 0`";
 
 const PASSES: &str = "decide it yourself, and write one branch";
 
-const LISTS: &str = "write a macro that does one repetition, and call it with each value";
+const LISTS: &str =
+    "write the block once for each item, or make it a macro and call that with each item";
 
 const SEGMENTS: &str =
     "leave it out: lines stay in their order, so code that follows data moves up";
@@ -263,6 +264,12 @@ const OPEN_REPETITION: [&str; 8] = [
     "IRP", "IRPC", ".IRP", "DUP", "REPEAT", ".REPT", ".MACRO", "WHILE",
 ];
 
+/// The words of other assemblers that close a condition.
+const CLOSE_CONDITION: [&str; 3] = ["ENDC", ".ENDIF", "FI"];
+
+/// The words of other assemblers that close a repetition or a macro.
+const CLOSE_REPETITION: [&str; 6] = ["EDUP", "ENDR", ".ENDR", "ENDMACRO", ".ENDM", "MEND"];
+
 /// Whether a list has a word.
 fn lists(words: &[&str], word: &str) -> bool {
     for own in words {
@@ -278,6 +285,14 @@ pub(crate) fn opens(opening: Opening, word: &str) -> bool {
     match opening {
         Opening::Condition => lists(&OPEN_CONDITION, word),
         Opening::Repetition => lists(&OPEN_REPETITION, word),
+    }
+}
+
+/// Whether a word in upper case closes such a block in another assembler.
+pub(crate) fn closes(opening: Opening, word: &str) -> bool {
+    match opening {
+        Opening::Condition => lists(&CLOSE_CONDITION, word),
+        Opening::Repetition => lists(&CLOSE_REPETITION, word),
     }
 }
 

@@ -1,11 +1,11 @@
 //! Blocks, and macros.
 
-use crate::advice::{Opening, directive_instead};
+use crate::advice::{Opening, directive_instead, opens};
 use crate::case::Case;
 use crate::draft::Draft;
-use crate::lines::{Wanted, first_line, last_word_before};
+use crate::lines::{Wanted, first_line, other_opener, word_in};
 use crate::reserved::reserved_text;
-use crate::shown::shown;
+use crate::showing::shown;
 use asm_line::{BlockWord, Head, is_name};
 use asm_scan::{Kind, Mark};
 use common::is_reserved;
@@ -67,25 +67,57 @@ fn closes_none(
     let text = format!(in alloc; "this {word} {verb} no {opener}")?;
     let draft = case.on_word(text);
     let before = case.finding.number;
-    let Some((line, found)) = last_word_before(alloc, case.source, before, opening)? else {
+    let Some(line) = other_opener(alloc, case.source, before, opening)? else {
         return Ok(draft);
     };
-    let draft = draft.note(format!(in alloc; "{found} at line {line} is not supported")?)?;
+    let found = word_in(alloc, case.source.line(line))?;
+    let at = case.at_line(line)?;
+    let draft = draft.note(format!(in alloc; "{found} {at} is not supported")?)?;
     match directive_instead(&found) {
         Some(better) => draft.help(owned(alloc, better)?),
         None => Ok(draft),
     }
 }
 
+/// The message about a block word after a label.
+fn labelled_block(case: &Case<'_>, block: BlockWord, label: &[u8]) -> Result<Draft, AllocError> {
+    let alloc = case.alloc;
+    if let BlockWord::Macro = block {
+        let name = shown(alloc, label)?;
+        let text = owned(alloc, "the name of a macro has no colon")?;
+        let rest = case.joined(case.rest_at(), case.form.rest.len())?;
+        let blank = if rest.is_empty() { "" } else { " " };
+        return case
+            .draft(0, 2, text)
+            .help(format!(in alloc; "`{name} MACRO{blank}{rest}`")?);
+    }
+    let word = block_text(block);
+    let text = format!(in alloc; "{word} takes no label")?;
+    case.draft(0, 2, text)
+        .help(owned(alloc, "put the label on a line of its own")?)
+}
+
+/// The message about a word of another assembler that opens a block, if a later line closes or divides it.
+fn other_opens(case: &Case<'_>) -> Result<Option<Draft>, AllocError> {
+    let alloc = case.alloc;
+    let word = word_in(alloc, &case.finding.text)?;
+    if !opens(Opening::Condition, &word) && !opens(Opening::Repetition, &word) {
+        return Ok(None);
+    }
+    let draft = case.on_word(format!(in alloc; "{word} is not supported")?);
+    let help = match directive_instead(&word) {
+        Some(better) => Some(owned(alloc, better)?),
+        None => None,
+    };
+    Ok(Some(draft.help_if(help)?))
+}
+
 /// The message about a block word in the wrong place.
 fn stray_block(case: &Case<'_>, block: BlockWord) -> Result<Draft, AllocError> {
     let alloc = case.alloc;
     let word = block_text(block);
-    if case.form.label.is_some() {
-        let text = format!(in alloc; "{word} takes no label")?;
-        return case
-            .draft(0, 2, text)
-            .help(owned(alloc, "put the label on a line of its own")?);
+    if let Some(label) = case.form.label {
+        return labelled_block(case, block, label);
     }
     let rest = case.form.rest.len();
     match block {
@@ -171,6 +203,9 @@ pub(crate) fn stray(case: &Case<'_>) -> Result<Draft, AllocError> {
         Head::Block(block) => stray_block(case, block),
         Head::Macro(name) => stray_macro(case, name),
         _ => {
+            if let Some(draft) = other_opens(case)? {
+                return Ok(draft);
+            }
             let name = shown(alloc, case.word())?;
             let text = format!(in alloc; "a line of the macro `{name}` is in the wrong place")?;
             case.on_word(text).help(owned(
@@ -211,11 +246,12 @@ pub(crate) fn redefined(case: &Case<'_>) -> Result<Draft, AllocError> {
     let shown_name = shown(alloc, name)?;
     let text = format!(in alloc; "the macro `{shown_name}` is defined twice")?;
     let draft = case.draft(case.word_at().saturating_sub(1), 1, text);
-    let draft = match first_line(alloc, case.source, Wanted::Macro(name))? {
-        Some(line) if line < case.finding.number => draft.note(format!(in alloc;
-            "first at line {line}"
-        )?)?,
-        _ => draft.note(owned(alloc, "first in a shared file")?)?,
+    let draft = match case.source.macro_line(alloc, name)? {
+        Some(line) if line < case.finding.number => {
+            let at = case.at_line(line)?;
+            draft.note(format!(in alloc; "first {at}")?)?
+        }
+        _ => draft,
     };
     draft.help(owned(alloc, "give one of the two another name")?)
 }
@@ -261,11 +297,13 @@ pub(crate) fn condition_names_label(case: &Case<'_>) -> Result<Draft, AllocError
         None => &[],
     };
     if let Some(line) = first_line(alloc, case.source, Wanted::Equ(wanted))? {
-        return draft.help(format!(in alloc; "move the EQU line up, which is line {line}")?);
+        let line = case.line_text(line)?;
+        return draft.help(format!(in alloc; "move the EQU line up, which is {line}")?);
     }
     if let Some(line) = first_line(alloc, case.source, Wanted::Label(wanted))? {
+        let line = case.line_text(line)?;
         return draft.note(format!(in alloc;
-            "`{name}` is a label (line {line}), and addresses are not known yet"
+            "`{name}` is a label ({line}), and addresses are not known yet"
         )?);
     }
     draft.help(format!(in alloc; "define it above, or with `--define {name}=1`")?)

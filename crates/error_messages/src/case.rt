@@ -1,6 +1,7 @@
 //! An error, and the line that it is in.
 
 use crate::draft::{Draft, Spot};
+use crate::source::SourceLines;
 use asm_line::{Form, Head};
 use asm_scan::Token;
 use source_errors::{Finding, Known};
@@ -10,8 +11,7 @@ use std::alloc::{AllocError, Global};
 #[derive(Drop)]
 pub(crate) struct Case<'a> {
     pub(crate) alloc: Global,
-    /// The whole source.
-    pub(crate) source: &'a [u8],
+    pub(crate) source: &'a SourceLines<'a>,
     pub(crate) finding: &'a Finding,
     pub(crate) known: Option<&'a Known>,
     pub(crate) tokens: &'a [Token<'a>],
@@ -52,7 +52,32 @@ impl<'a> Case<'a> {
 
     /// This number of tokens from this one on, as they are shown in one line.
     pub(crate) fn joined(&self, at: usize, count: usize) -> Result<String, AllocError> {
-        crate::shown::joined(self.alloc, self.tokens_at(at, count))
+        crate::showing::joined(self.alloc, self.tokens_at(at, count))
+    }
+
+    /// A line as notes name it: `line 5`, by its number in the source itself, or `in a shared file`, or `by --define`.
+    pub(crate) fn line_text(&self, number: u32) -> Result<String, AllocError> {
+        let alloc = self.alloc;
+        let before = self.source.before;
+        if number <= before.defines {
+            return String::from_str(alloc, "by --define");
+        }
+        if number <= before.lines {
+            return String::from_str(alloc, "in a shared file");
+        }
+        let own = number - before.lines;
+        format!(in alloc; "line {own}")
+    }
+
+    /// Where a line is, as notes say it: `at line 5`, `in a shared file` or `by --define`.
+    pub(crate) fn at_line(&self, number: u32) -> Result<String, AllocError> {
+        let alloc = self.alloc;
+        let text = self.line_text(number)?;
+        let before = self.source.before;
+        if number <= before.defines || number <= before.lines {
+            return Ok(text);
+        }
+        format!(in alloc; "at {text}")
     }
 
     /// This number of tokens from this one on, as far as there are any.

@@ -1,7 +1,7 @@
 //! The mnemonics of the 8080, and what each is on the Z80.
 
 use crate::operands::Operand;
-use crate::shown::joined;
+use crate::showing::joined;
 use asm_scan::Token;
 use std::alloc::{AllocError, Global};
 

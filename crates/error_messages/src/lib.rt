@@ -5,6 +5,7 @@
 
 mod advice;
 mod blocks;
+mod calls;
 mod case;
 mod draft;
 mod exchange;
@@ -21,13 +22,18 @@ mod parts;
 mod place;
 mod reserved;
 mod scanning;
-mod shown;
+mod showing;
+mod source;
 mod syntax;
 mod telling;
 mod values;
 mod words;
 mod worth;
 
+pub use calls::empty_parameter;
+pub use lines::opener_of;
 pub use parts::{Message, Note, Place};
 pub use place::place_of_name;
+pub use showing::shown;
+pub use source::{Before, SourceLines};
 pub use telling::message;

@@ -1,11 +1,12 @@
 //! The word that is meant by one that is not known, or that does not take its operands.
 
 use crate::case::Case;
-use crate::shown::{joined, shown};
+use crate::near::differ_little;
+use crate::showing::joined;
 use asm_line::{Head, form_of};
 use asm_scan::{Kind, Token};
 use asm_spell::{StmtFault, statement};
-use std::alloc::AllocError;
+use std::alloc::{AllocError, Global};
 
 /// The most bytes of a word that is looked at. No word of the language is longer.
 const LONGEST: usize = 8;
@@ -13,61 +14,59 @@ const LONGEST: usize = 8;
 /// The fewest.
 const SHORTEST: usize = 2;
 
-/// A change of one place of a word.
-#[derive(Clone, Copy)]
-enum Change {
-    Without,
+/// The words of the language. Each is tried by the parser, so this list says nothing about what they take.
+const WORDS: [&str; 89] = [
+    "LD", "PUSH", "POP", "EX", "EXX", "LDI", "LDIR", "LDD", "LDDR", "CPI", "CPIR", "CPD", "CPDR",
+    "INI", "INIR", "IND", "INDR", "OUTI", "OTIR", "OUTD", "OTDR", "ADD", "ADC", "SUB", "SBC",
+    "AND", "XOR", "OR", "CP", "INC", "DEC", "DAA", "CPL", "NEG", "CCF", "SCF", "NOP", "HALT", "DI",
+    "EI", "IM", "RLCA", "RLA", "RRCA", "RRA", "RLC", "RL", "RRC", "RR", "SLA", "SRA", "SRL", "RLD",
+    "RRD", "BIT", "SET", "RES", "JP", "JR", "DJNZ", "CALL", "RET", "RETI", "RETN", "RST", "IN",
+    "OUT", "DB", "DEFB", "DEFM", "DW", "DEFW", "DS", "DEFS", "PUBLIC", "GLOBAL", "EXTRN",
+    "EXTERNAL", "ORG", "END", ".Z80", "EQU", "MACRO", "LOCAL", "REPT", "IF", "ELSE", "ENDIF",
+    "ENDM",
+];
+
+/// How a word of the language differs from one that is written, by how likely that is.
+#[derive(Clone, Copy, Debug, PartialEq, Eq)]
+enum Difference {
+    /// Two letters are exchanged.
     Exchanged,
-    Other(u8),
-    Before(u8),
+    /// It has a letter more.
+    More,
+    /// It has a letter less.
+    Less,
+    /// One letter is another one.
+    Other,
 }
 
-/// Appends what becomes of the byte at the place of a change.
-fn put_changed(
-    word: &mut Vec<u8>,
-    change: Change,
-    byte: u8,
-    next: Option<u8>,
-) -> Result<bool, AllocError> {
-    match change {
-        Change::Without => Ok(false),
-        Change::Other(letter) => {
-            word.push(letter)?;
-            Ok(false)
-        }
-        Change::Before(letter) => {
-            word.push(letter)?;
-            word.push(byte)?;
-            Ok(false)
-        }
-        Change::Exchanged => {
-            if let Some(next) = next {
-                word.push(next)?;
-            }
-            word.push(byte)?;
-            Ok(next.is_some())
-        }
+/// The differences, the likely ones first.
+const DIFFERENCES: [Difference; 4] = [
+    Difference::Exchanged,
+    Difference::More,
+    Difference::Less,
+    Difference::Other,
+];
+
+/// The sum of the bytes of a word, which the order of its letters does not change.
+fn sum(word: &[u8]) -> u32 {
+    let mut sum = 0u32;
+    for byte in word {
+        sum = sum.saturating_add(u32::from(*byte));
     }
+    sum
 }
 
-/// A word with a change at this place; after its end, a letter can only be added.
-fn changed(case: &Case<'_>, word: &[u8], at: usize, change: Change) -> Result<Vec<u8>, AllocError> {
-    let mut found = Vec::new(case.alloc);
-    let mut skip = false;
-    for (number, byte) in word.iter().enumerate() {
-        if skip {
-            skip = false;
-        } else if number == at {
-            let next = word.get(at.saturating_add(1)).copied();
-            skip = put_changed(&mut found, change, *byte, next)?;
-        } else {
-            found.push(*byte)?;
-        }
+/// How a word of the language differs from one that is written and that differs from it little.
+fn difference_between(written: &[u8], word: &[u8]) -> Difference {
+    if word.len() > written.len() {
+        Difference::More
+    } else if word.len() < written.len() {
+        Difference::Less
+    } else if sum(word) == sum(written) {
+        Difference::Exchanged
+    } else {
+        Difference::Other
     }
-    if let (Change::Before(letter), true) = (change, at == word.len()) {
-        found.push(letter)?;
-    }
-    Ok(found)
 }
 
 /// Whether the line is one of the language if its word is this one.
@@ -92,64 +91,26 @@ fn fits(case: &Case<'_>, word: &[u8]) -> Result<bool, AllocError> {
     }
 }
 
-/// The word with this change, if the line is then one of the language.
-fn tried(
-    case: &Case<'_>,
-    word: &[u8],
-    at: usize,
-    change: Change,
-) -> Result<Option<Vec<u8>>, AllocError> {
-    let found = changed(case, word, at, change)?;
-    if found.as_slice() != word && fits(case, &found)? {
-        Ok(Some(found))
-    } else {
-        Ok(None)
-    }
-}
-
-/// The kinds of changes, in the order in which they are tried.
-const KINDS: [Change; 4] = [
-    Change::Exchanged,
-    Change::Before(b'A'),
-    Change::Without,
-    Change::Other(b'A'),
-];
-
-/// A change of the same kind with this letter.
-fn with_letter(change: Change, letter: u8) -> Change {
-    match change {
-        Change::Before(_) => Change::Before(letter),
-        Change::Other(_) => Change::Other(letter),
-        Change::Exchanged => Change::Exchanged,
-        Change::Without => Change::Without,
-    }
-}
-
-/// The first word with a change of this kind at this place with which the line is one of the language.
-fn tried_letters(
-    case: &Case<'_>,
-    word: &[u8],
-    at: usize,
-    kind: Change,
-) -> Result<Option<Vec<u8>>, AllocError> {
-    let last = match kind {
-        Change::Before(_) | Change::Other(_) => b'Z',
-        Change::Exchanged | Change::Without => b'A',
-    };
-    for letter in b'A'..=last {
-        if let Some(found) = tried(case, word, at, with_letter(kind, letter))? {
-            return Ok(Some(found));
+/// The words of the language that differ little from one that is written.
+fn near_words(alloc: Global, written: &[u8]) -> Result<Vec<&'static str>, AllocError> {
+    let mut near = Vec::new(alloc);
+    for word in &WORDS {
+        let bytes = word.as_bytes();
+        if bytes != written && differ_little(bytes, written) {
+            near.push(*word)?;
         }
     }
-    Ok(None)
+    Ok(near)
 }
 
-/// The first word near to this one with which the line is one of the language.
-fn nearest(case: &Case<'_>, word: &[u8]) -> Result<Option<Vec<u8>>, AllocError> {
-    for kind in &KINDS {
-        for at in 0..=word.len() {
-            if let Some(found) = tried_letters(case, word, at, *kind)? {
-                return Ok(Some(found));
+/// The likeliest word with which the line is one of the language.
+fn nearest(case: &Case<'_>, written: &[u8]) -> Result<Option<&'static str>, AllocError> {
+    let near = near_words(case.alloc, written)?;
+    for wanted in &DIFFERENCES {
+        for word in &near {
+            let bytes = word.as_bytes();
+            if difference_between(written, bytes) == *wanted && fits(case, bytes)? {
+                return Ok(Some(*word));
             }
         }
     }
@@ -164,12 +125,11 @@ pub(crate) fn meant(case: &Case<'_>) -> Result<Option<String>, AllocError> {
     if upper.len() < SHORTEST || upper.len() > LONGEST {
         return Ok(None);
     }
-    let Some(found) = nearest(case, &upper)? else {
+    let Some(word) = nearest(case, &upper)? else {
         return Ok(None);
     };
-    let word = shown(alloc, &found)?;
     if case.form.rest.is_empty() {
-        return Ok(Some(word));
+        return Ok(Some(String::from_str(alloc, word)?));
     }
     let rest = joined(alloc, case.form.rest)?;
     Ok(Some(format!(in alloc; "{word} {rest}")?))

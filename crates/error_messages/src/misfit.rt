@@ -6,10 +6,11 @@ use crate::exchange::exchanged;
 use crate::forms::{Counts, firsts, list_text, name_text, seconds, takes};
 use crate::meant::meant;
 use crate::operands::{Operand, form_written, operands};
-use crate::shown::{joined, shown};
+use crate::showing::{joined, shown};
 use asm_line::Head;
 use std::alloc::{AllocError, Global};
 use z80_form::{Form, Mnemonic, Name, mnemonic_of};
+use z80_instr::AluOperation;
 
 /// An instruction whose operands do not fit.
 #[derive(Drop)]
@@ -69,7 +70,10 @@ impl<'c, 'a> Misfit<'c, 'a> {
             && takes(self.mnemonic, &[self.form(1)])
         {
             let right = self.operand_text(1)?;
-            return draft.help(format!(in alloc; "`{word} {right}` works on A")?);
+            if matches!(self.mnemonic, Mnemonic::Alu(_)) {
+                return draft.help(format!(in alloc; "`{word} {right}` works on A")?);
+            }
+            return draft.help(format!(in alloc; "write `{word} {right}`")?);
         }
         if let Some(help) = exchanged(alloc, self.mnemonic, self.form(0), self.form(1))? {
             return draft.help(help);
@@ -162,7 +166,12 @@ impl<'c, 'a> Misfit<'c, 'a> {
             return Ok(Some(help));
         }
         let (l, r) = (self.operand_text(0)?, self.operand_text(1)?);
-        if takes(self.mnemonic, &[right, left]) {
+        // The other order of a load or of SBC means something else.
+        let may_turn = !matches!(
+            self.mnemonic,
+            Mnemonic::Ld | Mnemonic::Alu(AluOperation::Sbc)
+        );
+        if may_turn && takes(self.mnemonic, &[right, left]) {
             return Ok(Some(format!(in alloc; "`{word} {r},{l}`")?));
         }
         if self.mnemonic == Mnemonic::Jr && takes(Mnemonic::Jp, &[left, right]) {

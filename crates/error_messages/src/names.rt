@@ -7,13 +7,12 @@ ghost use Rattle.asm_names.specs.Names.{kind_of_name};
 use crate::advice::is_undocumented_register;
 use crate::case::Case;
 use crate::draft::Draft;
-use crate::lines::numbered;
 use crate::near::is_near;
 use crate::place::token_named;
 use crate::reserved::reserved_text;
 use crate::scanning::hexadecimal;
-use crate::shown::shown;
-use asm_line::is_name;
+use crate::showing::shown;
+use asm_line::{Head, is_name};
 use asm_names::{Kind, SourceLine};
 use asm_parse::{Item, TermView, Tree};
 use asm_spell::{Body, Line};
@@ -88,11 +87,13 @@ fn nearest(known: &Known, name: &[u8]) -> Option<usize> {
     None
 }
 
+const EXTERNAL: &str = "an external";
+
 /// What kind of name a name is, in words.
 fn kind_text(kind: Kind) -> &'static str {
     match kind {
         Kind::Label(_) => "a label",
-        Kind::External => "an external",
+        Kind::External => EXTERNAL,
         Kind::Equ(_) => "a constant",
     }
 }
@@ -112,7 +113,10 @@ fn near_help(case: &Case<'_>, name: &[u8]) -> Result<Option<String>, AllocError>
     let what = kind_text(kind);
     let own_text = shown(alloc, own)?;
     match defined_at(known, own) {
-        Some(line) => Ok(Some(format!(in alloc; "there is {what} `{own_text}` (line {line})")?)),
+        Some(line) => {
+            let line = case.line_text(line)?;
+            Ok(Some(format!(in alloc; "there is {what} `{own_text}` ({line})")?))
+        }
         None => Ok(Some(format!(in alloc; "there is {what} `{own_text}`")?)),
     }
 }
@@ -163,7 +167,41 @@ pub(crate) fn undefined(case: &Case<'_>) -> Result<Draft, AllocError> {
 
 /// Whether the line is in a macro or a repetition, and not as the source has it.
 fn is_expanded(case: &Case<'_>) -> bool {
-    numbered(case.source, case.finding.number).trim() != case.finding.text.as_slice().trim()
+    case.source.line(case.finding.number).trim() != case.finding.text.as_slice().trim()
+}
+
+/// What a line defines whose token `at` is a name that is defined already.
+fn kind_here(case: &Case<'_>, at: usize) -> &'static str {
+    match case.form.head {
+        Head::Equ(_) => "a constant",
+        _ if at < case.rest_at() => "a label",
+        _ => EXTERNAL,
+    }
+}
+
+/// The message about a name that is an external and also something else.
+fn external_too(
+    case: &Case<'_>,
+    at: usize,
+    here: &str,
+    there: &str,
+    line: u32,
+) -> Result<Draft, AllocError> {
+    let alloc = case.alloc;
+    let written = case.joined(at, 1)?;
+    let line = case.at_line(line)?;
+    let text = format!(in alloc; "`{written}` is {here} here, and {there} {line}")?;
+    case.draft(at, 1, text).help(String::from_str(
+        alloc,
+        "leave out the EXTRN if this source defines the name, or rename one of the two",
+    )?)
+}
+
+/// Whether a label is also an external of its own line, which is the one that defines it.
+fn is_also_external(case: &Case<'_>, at: usize, name: &[u8], line: u32) -> bool {
+    line == case.finding.number
+        && at < case.rest_at()
+        && token_named(case.tokens, case.rest_at(), name).is_some()
 }
 
 /// The message about a name that is defined twice.
@@ -182,8 +220,26 @@ pub(crate) fn duplicate(case: &Case<'_>) -> Result<Draft, AllocError> {
         Some(known) => defined_at(known, &name),
         None => None,
     };
+    let there = match case.known {
+        Some(known) => known.table.kind(&name).map(kind_text),
+        None => None,
+    };
+    let here = kind_here(case, at);
+    if let (Some(there), Some(line)) = (there, first) {
+        let there = if is_also_external(case, at, &name, line) {
+            EXTERNAL
+        } else {
+            there
+        };
+        if here != there && (here == EXTERNAL || there == EXTERNAL) {
+            return external_too(case, at, here, there, line);
+        }
+    }
     let draft = match first {
-        Some(line) => draft.note(format!(in alloc; "first at line {line}")?)?,
+        Some(line) => {
+            let at = case.at_line(line)?;
+            draft.note(format!(in alloc; "first {at}")?)?
+        }
         None => draft,
     };
     if is_expanded(case) {
@@ -336,7 +392,8 @@ fn equ_text(case: &Case<'_>, known: &Known, at: usize) -> Result<String, AllocEr
             },
         ) => {
             let name = shown(alloc, name)?;
-            format!(in alloc; "{name} (line {number})")
+            let line = case.line_text(*number)?;
+            format!(in alloc; "{name} ({line})")
         }
         _ => Ok(String::new(alloc)),
     }

@@ -36,9 +36,14 @@ fn differ_at_front(a: &[u8], b: &[u8]) -> bool {
 /// The fewest bytes of the longer of two names that may count as near.
 const SHORTEST: usize = 3;
 
-/// Whether one name is the other with one byte more, less or other, or with two bytes exchanged.
+/// Whether one name is the other with one byte more, less or other, or with two bytes exchanged, and one of the two is not too short.
 pub(crate) fn is_near(a: &[u8], b: &[u8]) -> bool {
-    if a.len().max(b.len()) < SHORTEST {
+    a.len().max(b.len()) >= SHORTEST && differ_little(a, b)
+}
+
+/// Whether one word is the other with one byte more, less or other, or with two bytes exchanged.
+pub(crate) fn differ_little(a: &[u8], b: &[u8]) -> bool {
+    if a.len().abs_diff(b.len()) > 1 {
         return false;
     }
     let len = common_len(a, b);

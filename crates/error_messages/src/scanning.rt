@@ -2,7 +2,7 @@
 
 use crate::draft::{Draft, Spot};
 use crate::extent::{Extent, first_uncut};
-use crate::shown::shown;
+use crate::showing::shown;
 use asm_scan::{LONGEST_LINE, ScanFault};
 use bstr::ByteSlice;
 use std::alloc::{AllocError, Global};

@@ -6,13 +6,13 @@ use crate::forms::Counts;
 use crate::operands::{Operand, expression_in, left_open, name_in, operands};
 use crate::reserved::reserved_text;
 use crate::scanning::hexadecimal;
-use crate::shown::shown;
+use crate::showing::shown;
 use crate::worth::is_expression;
 use asm_line::Head;
 use asm_scan::{Kind, Mark, Token};
 use common::is_reserved;
 use std::alloc::AllocError;
-use z80_form::mnemonic_of;
+use z80_form::{Name, mnemonic_of};
 
 /// Whether some tokens can begin an expression: whether they are one if their parentheses are closed, perhaps after one more number.
 fn can_begin(case: &Case<'_>, front: &[Token<'_>]) -> Result<bool, AllocError> {
@@ -109,11 +109,29 @@ fn long_string(case: &Case<'_>, at: usize, text: &[u8]) -> Result<Draft, AllocEr
     )?)
 }
 
+/// Whether a token is a register pair in parentheses with a displacement after it, as in `(HL+1)`.
+fn has_displacement(case: &Case<'_>, at: usize) -> bool {
+    let (Some(before), Some(token), Some(after)) = (
+        case.tokens.get(at.wrapping_sub(1)),
+        case.tokens.get(at),
+        case.tokens.get(at.saturating_add(1)),
+    ) else {
+        return false;
+    };
+    matches!(before.kind, Kind::Mark(Mark::Open))
+        && matches!(
+            name_in(token),
+            Some(Name::Hl | Name::Bc | Name::De | Name::Sp)
+        )
+        && matches!(after.kind, Kind::Mark(Mark::Plus | Mark::Minus))
+}
+
 /// The message about a token that no expression can have there.
 fn foreign(case: &Case<'_>, at: usize, token: &Token<'_>) -> Result<Draft, AllocError> {
     let alloc = case.alloc;
     let written = shown(alloc, token.text)?;
     let upper = token.text.to_ascii_uppercase(alloc)?;
+    let upper_text = shown(alloc, &upper)?;
     match token.kind {
         Kind::Quoted => long_string(case, at, token.text),
         Kind::Mark(Mark::Slash | Mark::Star) => {
@@ -126,6 +144,14 @@ fn foreign(case: &Case<'_>, at: usize, token: &Token<'_>) -> Result<Draft, Alloc
             case.draft(at, 1, text).help(String::from_str(
                 alloc,
                 "a line has one statement, and the next one is on a line of its own",
+            )?)
+        }
+        _ if has_displacement(case, at) => {
+            let text = format!(in alloc;
+                "`{written}` takes no displacement: only (IX+d) and (IY+d) have one"
+            )?;
+            case.draft(at, 1, text).help(format!(in alloc;
+                "change {upper_text} before, or use IX or IY"
             )?)
         }
         _ if name_in(token).is_some() => {

@@ -10,7 +10,8 @@ use crate::case::Case;
 use crate::draft::Draft;
 use crate::parts::{Message, Note};
 use crate::place::place_of;
-use crate::shown::shown;
+use crate::showing::shown;
+use crate::source::SourceLines;
 use crate::{blocks, names, scanning, values};
 use asm_line::form_of;
 use asm_macro::MacroFault;
@@ -121,15 +122,33 @@ fn drafted(case: &Case<'_>) -> Result<Draft, AllocError> {
     }
 }
 
-/// Answers the message about an error: where in its line it is, what it means, and what to write instead. `source` is the whole source;
-/// `known` is None if the expansion stopped, so that the lines are not known.
+/// The message about an error, given the tokens of its line.
+fn drafted_by<'c>(
+    alloc: Global,
+    source: &'c SourceLines<'c>,
+    finding: &'c Finding,
+    known: Option<&'c Known>,
+    tokens: &'c [Token<'c>],
+) -> Result<Draft, AllocError> {
+    drafted(&Case {
+        alloc,
+        source,
+        finding,
+        known,
+        tokens,
+        form: form_of(tokens),
+    })
+}
+
+/// Answers the message about an error: where in its line it is, what it means, and what to write instead. Notes name the lines of the source
+/// by their numbers in the source itself. `known` is None if the expansion stopped, so that the lines are not known.
 ///
 /// # Errors
 ///
 /// `AllocError` if memory ran out, or if that is the error that the finding is about.
 pub fn message(
     alloc: Global,
-    source: &[u8],
+    source: &SourceLines<'_>,
     finding: &Finding,
     known: Option<&Known>,
 ) -> Result<Message, AllocError>
@@ -142,15 +161,7 @@ pub fn message(
     let line = finding.text.as_slice();
     match tokens(alloc, line) {
         Ok(found) => {
-            let case = Case {
-                alloc,
-                source,
-                finding,
-                known,
-                tokens: &found,
-                form: form_of(&found),
-            };
-            let draft = drafted(&case)?;
+            let draft = drafted_by(alloc, source, finding, known, &found)?;
             finished(alloc, line, &found, &draft)
         }
         Err(ScanFault::NoMemory) => Err(AllocError),

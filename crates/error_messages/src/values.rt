@@ -3,7 +3,7 @@
 use crate::case::Case;
 use crate::draft::Draft;
 use crate::operands::{Operand, expression_in, left_open, operands};
-use crate::shown::{joined, shown};
+use crate::showing::{joined, shown};
 use crate::worth::{Worth, judge, worth_of};
 use asm_expr::{Offset, is_defined, offset_from_here};
 use asm_line::{Head, is_name, is_word};
@@ -387,7 +387,10 @@ fn defined_text(case: &Case<'_>, tokens: &[Token<'_>]) -> Result<String, AllocEr
     };
     let upper = token.text.to_ascii_uppercase(alloc)?;
     match crate::names::defined_at(known, &upper) {
-        Some(line) if !is_reserved(&upper) => format!(in alloc; " (line {line})"),
+        Some(line) if !is_reserved(&upper) => {
+            let line = case.line_text(line)?;
+            format!(in alloc; " ({line})")
+        }
         _ => Ok(String::new(alloc)),
     }
 }

@@ -4,10 +4,9 @@ use crate::advice::{directive_instead, undocumented};
 use crate::case::Case;
 use crate::draft::Draft;
 use crate::intel::in_z80;
-use crate::lines::{Wanted, first_line};
 use crate::meant::meant;
 use crate::operands::operands;
-use crate::shown::{joined, shown};
+use crate::showing::{joined, shown};
 use asm_line::Head;
 use asm_scan::{Kind, Mark, Token};
 use asm_spell::{StmtFault, statement};
@@ -85,17 +84,14 @@ fn foreign(case: &Case<'_>, at: usize) -> Result<Option<Draft>, AllocError> {
 /// The message where the macro of this name is defined in a later line.
 fn defined_later(case: &Case<'_>, word: &[u8], draft: Draft) -> Result<Option<Draft>, AllocError> {
     let alloc = case.alloc;
-    match first_line(alloc, case.source, Wanted::Macro(word))? {
+    match case.source.macro_line(alloc, word)? {
         Some(line) => {
             let name = shown(alloc, word)?;
+            let at = case.at_line(line)?;
             let note = if line > case.finding.number {
-                format!(in alloc;
-                    "the macro `{name}` is defined later, at line {line}: define it first"
-                )?
+                format!(in alloc; "the macro `{name}` is defined later, {at}: define it first")?
             } else {
-                format!(in alloc;
-                    "the macro `{name}` at line {line} is in a branch that is not assembled"
-                )?
+                format!(in alloc; "the macro `{name}` {at} is in a branch that is not assembled")?
             };
             Ok(Some(draft.note(note)?))
         }

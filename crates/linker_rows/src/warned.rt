@@ -2,7 +2,14 @@
 
 use crate::sources::{grow_of, texts_of};
 use row_text::Row;
-use z80dev_make::{Front, SourceFile, Wanted, asm, build};
+use z80dev_make::{Front, Products, SourceFile, Wanted, asm, build};
+
+/// Nothing but the program, its sizes file and its certificate.
+const NOTHING_MORE: Products = Products {
+    list: false,
+    map: false,
+    symbols: None,
+};
 
 /// The paths of the sources of a row, which has eight at most.
 const PATHS: [&str; 8] = ["A", "B", "C", "D", "E", "F", "G", "H"];
@@ -41,7 +48,7 @@ pub(crate) fn answer_build(row: &mut Row) {
     };
     let wanted = Wanted {
         grow,
-        list: false,
+        products: NOTHING_MORE,
         warn: true,
     };
     let made = build(row.alloc(), front, &files, wanted);

@@ -19,6 +19,7 @@ fn main(rt: HostRuntime) -> Result<(), anyhow::Error> {
             let mut row = Row::new(alloc, &line);
             match row.word() {
                 "says" => telling::answer_first(&mut row),
+                "after" => telling::answer_after(&mut row),
                 "all" => telling::answer_all(&mut row),
                 _ => row.refuse("no such call"),
             }

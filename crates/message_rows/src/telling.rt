@@ -1,7 +1,7 @@
 //! Compares messages with what they have to say.
 
 use bstr::ByteSlice;
-use error_messages::{Message, Note, message};
+use error_messages::{Before, Message, Note, SourceLines, message};
 use row_text::Row;
 use source_errors::{Finding, Findings, find_errors};
 
@@ -89,9 +89,25 @@ fn findings_of(row: &mut Row<'_>, source: &[u8]) -> Option<Findings> {
     }
 }
 
+/// Nothing comes before the lines of the source.
+const ALONE: Before = Before {
+    defines: 0,
+    lines: 0,
+};
+
 /// The message about an error.
-fn told_of(row: &mut Row<'_>, source: &[u8], found: &Findings, finding: &Finding) -> Option<Told> {
-    match message(row.alloc(), source, finding, found.known.as_ref()) {
+fn told_of(
+    row: &mut Row<'_>,
+    source: &[u8],
+    before: Before,
+    found: &Findings,
+    finding: &Finding,
+) -> Option<Told> {
+    let Ok(lines) = SourceLines::of(row.alloc(), source, before) else {
+        row.refuse("memory");
+        return None;
+    };
+    match message(row.alloc(), &lines, finding, found.known.as_ref()) {
         Ok(message) => Some(Told {
             number: finding.number,
             message,
@@ -105,6 +121,18 @@ fn told_of(row: &mut Row<'_>, source: &[u8], found: &Findings, finding: &Finding
 
 /// Says whether the message about the first error of a source is at the place of the row and has its words; prints the message if not.
 pub(crate) fn answer_first(row: &mut Row<'_>) {
+    compare_first(row, ALONE);
+}
+
+/// The same for a source whose first lines come from `--define` and from shared files.
+pub(crate) fn answer_after(row: &mut Row<'_>) {
+    let defines = row.decimal();
+    let lines = row.decimal();
+    compare_first(row, Before { defines, lines });
+}
+
+/// Compares the message about the first error of a source with the rest of a row.
+fn compare_first(row: &mut Row<'_>, before: Before) {
     let place = row.until(':');
     let column = row.word();
     let words = row.until('|');
@@ -116,7 +144,7 @@ pub(crate) fn answer_first(row: &mut Row<'_>) {
         write!(row, " no error");
         return;
     };
-    let Some(told) = told_of(row, &source, &found, finding) else {
+    let Some(told) = told_of(row, &source, before, &found, finding) else {
         return;
     };
     let mut wanted = Row::new(row.alloc(), "");
@@ -140,7 +168,7 @@ pub(crate) fn answer_all(row: &mut Row<'_>) {
         return;
     };
     for finding in &found.findings {
-        if let Some(told) = told_of(row, &source, &found, finding) {
+        if let Some(told) = told_of(row, &source, ALONE, &found, finding) {
             print_place(row, &told);
         }
     }

@@ -17,7 +17,7 @@ use Rattle.asm_names.specs.Names.{defines, has_clash, names}
 use Rattle.asm_statements.specs.Program.Spelled.{IsLineOfText}
 use Rattle.asm_module.specs.declared.line_fault.LineFault.{LineFault}
 use Rattle.asm_module.specs.Reads.Read.{read_line, scanned_by, spelled_by}
-use Rattle.source_errors.specs.Counted.{Counted, after_colon, lines_counted, counted_after, counts, counts_as, counts_by, defined_name_alone, takens}
+use Rattle.source_errors.specs.Counted.{Counted, after_colon, lines_counted, counted_after, counts, counts_as, counts_by, meant_as, takens}
 
 of_spelled : (r : Result Line StmtFault) (line : Line) → spelled_by r ≡ Ok line → r ≡ Ok line
 of_spelled (Ok l) line e = cc
@@ -54,8 +54,8 @@ first_text None None None of_a of_b of_c = tt
 
 counts_text : (before : List Taken) (l : Numbered) → IsTextIf (counts before l)
 counts_text before l =
-    first_text (counts_as before l.number l.text) (counts_as before l.number (defined_name_alone l.text)) (counts_as before l.number (after_colon l.text))
-    (text_by before l.number l.text (read_line l.text) refl) (text_by before l.number (defined_name_alone l.text) (read_line (defined_name_alone l.text)) refl) (text_by before l.number (after_colon l.text) (read_line (after_colon l.text)) refl)
+    first_text (counts_as before l.number l.text) (counts_as before l.number (meant_as l.text)) (counts_as before l.number (after_colon l.text))
+    (text_by before l.number l.text (read_line l.text) refl) (text_by before l.number (meant_as l.text) (read_line (meant_as l.text)) refl) (text_by before l.number (after_colon l.text) (read_line (after_colon l.text)) refl)
 
 abbrev counted_by : Numbered → Option Taken → List Counted
 counted_by l o = option_to_list (option_map (λ t. record { from = l; is_read = is_ok (read_line l.text); taken = t }) o)

@@ -13,7 +13,7 @@ use Rattle.asm_module.specs.Reads.Read.{read_line}
 use Rattle.asm_module.specs.Whys.{line_why}
 use Rattle.asm_module.specs.declared.fault.Why.{Why}
 use Rattle.asm_module.specs.declared.line_fault.LineFault.{LineFault}
-use Rattle.source_errors.specs.Counted.{after_colon, lines_counted, counted_after, counts, counts_as, counts_by, early, early_after, early_by, defined_name_alone, takens}
+use Rattle.source_errors.specs.Counted.{after_colon, lines_counted, counted_after, counts, counts_as, counts_by, early, early_after, early_by, meant_as, takens}
 use Rattle.source_errors.specs.Findings.{finding_of, name_told}
 use Rattle.source_errors.specs.declared.counting.Counting.{Counting}
 use Rattle.source_errors.specs.declared.counting.Origin.{Origin}
@@ -78,7 +78,7 @@ takes_itself old new l line was read once added = record {
   counts_itself =
       ap (λ r. option_to_list (option_map (λ t. record { from = l; is_read = is_ok r; taken = t }) (counts (takens (counted_in old)) l))) read
       ∙ ap (λ o. option_to_list (option_map (λ t. record { from = l; is_read = true; taken = t })
-      (first (o ∷ counts_as (takens (counted_in old)) l.number (defined_name_alone l.text) ∷ counts_as (takens (counted_in old)) l.number (after_colon l.text) ∷ [])))) itself
+      (first (o ∷ counts_as (takens (counted_in old)) l.number (meant_as l.text) ∷ counts_as (takens (counted_in old)) l.number (after_colon l.text) ∷ [])))) itself
 
   no_error : early (takens (counted_in old)) l ≡ None
   no_error = ap (early_by (takens (counted_in old)) l) read ∙ ap (λ b. cond b (Some (record { line = l; why = Why.Duplicate; name = None })) None) once_before
@@ -86,7 +86,7 @@ takes_itself old new l line was read once added = record {
 -- The line has an error, and counts as another one.
 module _ (old new : Counting) (l : Numbered) (was : IsCounting old) where
   instead : Option Taken
-  instead = first (counts_as (lines_of old.lines.items) l.number (defined_name_alone l.text) ∷ counts_as (lines_of old.lines.items) l.number (after_colon l.text) ∷ [])
+  instead = first (counts_as (lines_of old.lines.items) l.number (meant_as l.text) ∷ counts_as (lines_of old.lines.items) l.number (after_colon l.text) ∷ [])
 
   -- the same, given that the line itself does not count
   takes_instead : (why : Why) (is_read : Bool) → Refuses l why None is_read old new → is_ok (read_line l.text) ≡ is_read → counts_as (takens (counted_in old)) l.number l.text ≡ None
@@ -97,13 +97,13 @@ module _ (old new : Counting) (l : Numbered) (was : IsCounting old) where
     findings = refused.findings ∙ ap (λ f. map finding_of old.findings.items ++ option_to_list f) (sym error);
   } where
     counts_instead : lines_counted (counted_in old) l ≡ option_to_list (option_map (λ t. record { from = l; is_read = is_read; taken = t })
-        (first (counts_as (lines_of old.lines.items) l.number (defined_name_alone l.text) ∷ counts_as (lines_of old.lines.items) l.number (after_colon l.text) ∷ [])))
+        (first (counts_as (lines_of old.lines.items) l.number (meant_as l.text) ∷ counts_as (lines_of old.lines.items) l.number (after_colon l.text) ∷ [])))
     counts_instead =
         ap (λ b. option_to_list (option_map (λ t. record { from = l; is_read = b; taken = t }) (counts (takens (counted_in old)) l))) read
         ∙ ap (λ o. option_to_list (option_map (λ t. record { from = l; is_read = is_read; taken = t })
-        (first (o ∷ counts_as (takens (counted_in old)) l.number (defined_name_alone l.text) ∷ counts_as (takens (counted_in old)) l.number (after_colon l.text) ∷ [])))) not_itself
+        (first (o ∷ counts_as (takens (counted_in old)) l.number (meant_as l.text) ∷ counts_as (takens (counted_in old)) l.number (after_colon l.text) ∷ [])))) not_itself
         ∙ ap (λ ls. option_to_list (option_map (λ t. record { from = l; is_read = is_read; taken = t })
-        (first (counts_as ls l.number (defined_name_alone l.text) ∷ counts_as ls l.number (after_colon l.text) ∷ [])))) (before_is old was)
+        (first (counts_as ls l.number (meant_as l.text) ∷ counts_as ls l.number (after_colon l.text) ∷ [])))) (before_is old was)
 
   pub takes_unread : (why : LineFault) → read_line l.text ≡ Err why → Refuses l (line_why why) None false old new → Takes l old new
   takes_unread why read refused =

@@ -1,8 +1,9 @@
 -- Lines of a source some of which have errors: as which lines they count when the others are judged, so that an error makes no further ones.
-use Rattle.std.specs.Prelude.{ℕ, ◌+◌, ◌==◌, not, Bool, List, [], ◌∷◌, ◌++◌, Option, Some, None, Result, Ok, Err, if◌then◌else◌, codes, drop, is_ok, length, map}
+use Rattle.std.specs.Prelude.{ℕ, ◌+◌, ◌==◌, ◌||◌, not, Bool, List, [], ◌∷◌, ◌++◌, Option, Some, None, Result, Ok, Err, if◌then◌else◌, codes, drop, is_ok, length, map}
 use Rattle.std.specs.List.{prefix_len}
 use Rattle.std.specs.Option.{option_map, option_to_list}
-use Rattle.asm_line.specs.Forms.{Head, Equ}
+use Rattle.asm_line.specs.Forms.{Head, Equ, Word}
+use Rattle.asm_scan.specs.Tokens.{Lexeme}
 use Rattle.asm_text.specs.Lines.{Numbered, form_of}
 use Rattle.asm_spell.specs.Line.{Line}
 use Rattle.asm_names.specs.Faults.{first}
@@ -23,13 +24,30 @@ alone_by None head = []
 abbrev pub defined_name_alone : List ℕ → List ℕ
 defined_name_alone text = alone_by (form_of text).label (form_of text).head
 
+-- how many bytes come before what follows the first word of a line, given that word
+abbrev pub word_end : List ℕ → List ℕ → ℕ
+word_end word text = prefix_len (λ byte. (byte == 32) || (byte == 9)) text + length word
+
+-- the line with a colon after its first word, which makes that word a label
+abbrev pub with_colon : List ℕ → List ℕ → List ℕ
+with_colon word text = word ++ 58 ∷ drop (word_end word text) text
+
+-- What is meant by a line that has an error: if it only lacks the colon after its first word, the line with that colon; otherwise the name
+-- that it defines, alone.
+abbrev pub meant_by : List ℕ → Option (List ℕ) → Head → List Lexeme → List ℕ
+meant_by text None (Word word) (token ∷ rest) = if is_ok (read_line (with_colon word text)) then with_colon word text else []
+meant_by text label head rest = alone_by label head
+
+abbrev pub meant_as : List ℕ → List ℕ
+meant_as text = meant_by text (form_of text).label (form_of text).head (form_of text).rest
+
 -- what comes after the first colon of a line
 abbrev pub after_colon : List ℕ → List ℕ
 after_colon text = drop (prefix_len (λ byte. not (byte == 58)) text + 1) text
 
--- The texts as which a line may count: itself, the name that it defines alone, or what comes after its label.
+-- The texts as which a line may count: itself, what is meant by it, or what comes after its label.
 abbrev pub candidates : List ℕ → List (List ℕ)
-candidates text = text ∷ defined_name_alone text ∷ after_colon text ∷ []
+candidates text = text ∷ meant_as text ∷ after_colon text ∷ []
 
 -- the line as which a text counts after other lines, if it can be parsed and defines no name again
 abbrev pub counts_by : List Taken → ℕ → Result Line LineFault → Option Taken

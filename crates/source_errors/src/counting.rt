@@ -7,13 +7,13 @@ ghost use Rattle.asm_names.specs.Faults.{first};
 ghost use Rattle.asm_names.specs.Lines.{lines_of, taken_of};
 ghost use Rattle.asm_macro.specs.Views.{lines_seen};
 ghost use Rattle.asm_module.specs.Reads.Read.{read_line};
-ghost use Rattle.source_errors.specs.Counted.{after_colon, counted_after, counts_as, early_after, defined_name_alone};
+ghost use Rattle.source_errors.specs.Counted.{after_colon, counted_after, counts_as, early_after, meant_as};
 ghost use Rattle.source_errors.specs.Findings.{finding_of, name_told};
 ghost use Rattle.source_errors.specs.Private.State.{Appends, IsCounting, Refuses, Takes, counted_in, numbered_of};
 
 use crate::clashing::{clashes, repeated};
 use crate::finding::Finding;
-use crate::mending::{after_colon, defined_name_alone};
+use crate::mending::{after_colon, meant_as};
 use crate::reading::read_line;
 use asm_macro::{Expanded, ExpandedLine};
 use asm_module::{LineFault, Why};
@@ -90,10 +90,10 @@ impl Counting {
     ) -> Result<Option<SourceLine>, AllocError>
         requires { IsCounting self.now }
         ensures number { IfOk result (λ line. IfSome line (λ l. l.number ≡ number)) }
-        ensures line { IfOk result (λ line. option_map taken_of line ≡ first (counts_as (lines_of self.now.lines.items) number (defined_name_alone text.now) ∷ counts_as (lines_of self.now.lines.items) number (after_colon text.now) ∷ [])) }
+        ensures line { IfOk result (λ line. option_map taken_of line ≡ first (counts_as (lines_of self.now.lines.items) number (meant_as text.now) ∷ counts_as (lines_of self.now.lines.items) number (after_colon text.now) ∷ [])) }
     {
-        let alone = defined_name_alone(alloc, text)?;
-        let found = self.counts_as(alloc, number, &alone)?;
+        let meant = meant_as(alloc, text)?;
+        let found = self.counts_as(alloc, number, &meant)?;
         if found.is_some() {
             return Ok(found);
         }

@@ -15,4 +15,5 @@ mod using;
 mod whole;
 
 pub use finding::{Finding, Findings, Known};
+pub use scanning::mended_text;
 pub use whole::find_errors;

@@ -1,10 +1,12 @@
 //! Makes texts of lines that have errors, as which these lines count.
 
-ghost use Rattle.std.specs.Prelude.{◌≡◌, ◌++◌, ◌==◌, ◌≤◌, IfOk, codes, length, not};
+ghost use Rattle.std.specs.Prelude.{◌≡◌, ◌++◌, ◌==◌, ◌||◌, ◌≤◌, [], IfOk, codes, if◌then◌else◌, is_ok, length, not};
 ghost use Rattle.std.specs.List.{prefix_len};
 ghost use Rattle.asm_line.specs.Views.{form_seen};
-ghost use Rattle.source_errors.specs.Counted.{after_colon, alone_by, defined_name_alone};
+ghost use Rattle.asm_module.specs.Reads.Read.{read_line};
+ghost use Rattle.source_errors.specs.Counted.{after_colon, alone_by, defined_name_alone, meant_as, meant_by, with_colon};
 
+use crate::reading::read_line;
 use asm_line::{Form, Head, form_of};
 use asm_scan::{ScanFault, tokens};
 use std::alloc::{AllocError, Global};
@@ -44,6 +46,59 @@ pub(crate) fn defined_name_alone(alloc: Global, text: &[u8]) -> Result<Vec<u8>, 
 {
     match tokens(alloc, text) {
         Ok(found) => alone(alloc, form_of(&found)),
+        Err(ScanFault::NoMemory) => Err(AllocError),
+        Err(_) => Ok(Vec::new(alloc)),
+    }
+}
+
+/// Answers how many blanks a line begins with.
+fn indent(text: &[u8]) -> usize
+    ensures value { result ≡ prefix_len (λ byte. (byte == 32) || (byte == 9)) text.now }
+    ensures within { result ≤ length text.now }
+{
+    text.iter()
+        .take_while(|byte| **byte == b' ' || **byte == b'\t')
+        .count()
+}
+
+/// Answers a line with a colon after its first word.
+fn with_colon(alloc: Global, word: &[u8], text: &[u8]) -> Result<Vec<u8>, AllocError>
+    ensures { IfOk result (λ line. line.items ≡ with_colon word.now text.now) }
+{
+    let mut line = joined(alloc, word, b":")?;
+    let at = indent(text) + word.len();
+    line.extend_from_slice(text.get(at..).unwrap_or(&[]))?;
+    Ok(line)
+}
+
+/// Answers a line with a colon after its first word, if that can be parsed; otherwise an empty one.
+fn labelled(alloc: Global, word: &[u8], text: &[u8]) -> Result<Vec<u8>, AllocError>
+    ensures { IfOk result (λ line. line.items ≡ (if is_ok (read_line (with_colon word.now text.now)) then with_colon word.now text.now else [])) }
+{
+    let line = with_colon(alloc, word, text)?;
+    match read_line(alloc, &line)? {
+        Ok(_) => Ok(line),
+        Err(_) => Ok(Vec::new(alloc)),
+    }
+}
+
+/// Answers what is meant by a line of this form that has an error.
+fn meant_by(alloc: Global, text: &[u8], form: Form<'_>) -> Result<Vec<u8>, AllocError>
+    ensures { IfOk result (λ meant. meant.items ≡ meant_by text.now (form_seen form.entry).label (form_seen form.entry).head (form_seen form.entry).rest) }
+{
+    match (form.label, form.head, form.rest) {
+        (None, Head::Word(word), [_, ..]) => labelled(alloc, word, text),
+        _ => alone(alloc, form),
+    }
+}
+
+/// Answers what is meant by a line that has an error: the line with a colon after its first word, or the line of only the name that it
+/// defines, or an empty one.
+pub(crate) fn meant_as(alloc: Global, text: &[u8]) -> Result<Vec<u8>, AllocError>
+    ensures { IfOk result (λ meant. meant.items ≡ meant_as text.now) }
+{
+    match tokens(alloc, text) {
+        Ok(found) => meant_by(alloc, text, form_of(&found)),
         Err(ScanFault::NoMemory) => Err(AllocError),
         Err(_) => Ok(Vec::new(alloc)),
     }

@@ -56,7 +56,7 @@ fn put_mended(alloc: Global, line: &[u8], text: &mut Vec<u8>) -> Result<(), Allo
 }
 
 /// Answers a source in which each line that cannot be cut into tokens counts as the name that it defines, alone.
-pub(crate) fn mended_text(alloc: Global, lines: &Lines<'_>) -> Result<Vec<u8>, AllocError>
+pub fn mended_text(alloc: Global, lines: &Lines<'_>) -> Result<Vec<u8>, AllocError>
     ensures { IfOk result (λ text. (whole : List ℕ) → lines.now ≡ source_lines whole → text.items ≡ mended_text whole) }
 {
     let mut text = Vec::new(alloc);

@@ -1,6 +1,10 @@
 -- What `explain` answers for sources.
-use Rattle.std.specs.Prelude.{◌≡◌, ◌<◌, ℕ, Bool, true, false, List, [], ◌∷◌, Result, Ok, Err, is_ok, length, map}
-use Rattle.std.specs.List.{AllZip, list_any}
+use Rattle.std.specs.Prelude.{◌≡◌, ◌<◌, ℕ, ◌+◌, Bool, true, false, List, [], ◌∷◌, Result, Ok, Err, is_ok, length, map, nat_lt}
+use Rattle.std.specs.List.{AllZip, list_any, sum_by}
+use Rattle.source_warnings.specs.Calls.{AreCallWarnings}
+use Rattle.source_warnings.specs.Found.{AreSourceWarnings}
+use Rattle.source_warnings.specs.Warnings.{SourceWarning}
+use Rattle.z80dev_make.specs.Front.{CountsLines, front_lines}
 use Rattle.zmo_module.specs.Modules.{module_of}
 use Rattle.jump_warnings.specs.Warnings.{all_warnings}
 use Rattle.zlink.specs.Built.{IsBuilt}
@@ -9,9 +13,11 @@ use Rattle.zlink.specs.declared.building.Built.{Built}
 use Rattle.zlink.specs.declared.fault.BuildFault.{BuildFault}
 use Rattle.zlink.specs.declared.fault.BuildFault.TheVariants as build
 use Rattle.zlink.specs.declared.source.Source.{Source}
-use Rattle.z80dev_make.specs.Answers.{IsSource}
+use Rattle.z80dev_make.specs.Build.{IsBehind}
+use Rattle.z80dev_make.specs.Shared.{UnlessFaulty}
 use Rattle.z80dev_make.specs.Warned.{found_unless, joined}
 use Rattle.z80dev_make.specs.declared.answer.SourceFile.{SourceFile}
+use Rattle.z80dev_make.specs.declared.front.Front.{Front}
 use Rattle.z80dev_explain.specs.declared.report.Explained.{Explained}
 use Rattle.z80dev_explain.specs.declared.report.Report.{Report}
 use Rattle.z80dev_explain.specs.Reports.{is_report_of}
@@ -20,18 +26,51 @@ use Rattle.z80dev_explain.specs.Reports.{is_report_of}
 abbrev pub warning_count : Built → ℕ
 warning_count built = let modules = map module_of built.modules.items in length (found_unless (first_fault modules) (all_warnings (joined modules)))
 
--- The reports for what building answers: a report for each warning about a jump; or errors, among them the one for which building refuses a
--- source.
-abbrev pub AreReports : Result Built BuildFault → List Report → Type 0
-AreReports (Ok built) reports = length reports ≡ warning_count built
-AreReports (Err (build.Asm source fault)) reports = list_any (is_report_of source fault) reports ≡ true
-AreReports (Err (build.Link fault)) reports = 0 < length reports
+-- a warning is about a line that comes after this many
+abbrev pub is_behind : ℕ → SourceWarning → Bool
+is_behind before w = nat_lt before w.line.number
 
--- What is said of sources, given what building them answers.
-pub record IsExplained (grow : Bool) (files : List SourceFile) (has_program : Bool) (reports : List Report) : Type 0 where
-  pub sources : List Source
-  pub are : AllZip IsSource files sources
+abbrev pub one_if : Bool → ℕ
+one_if true = 1
+one_if false = 0
+
+-- how many warnings about a source are about lines that come after this many
+abbrev pub own_count : ℕ → List SourceWarning → ℕ
+own_count before found = sum_by (λ w. one_if (is_behind before w)) found
+
+-- a source has this number of warnings in lines that come after so many: about names, and about calls
+abbrev pub HasWarnings : ℕ → List ℕ → ℕ → Type 0
+HasWarnings before text count = (found calls : List SourceWarning) × AreSourceWarnings text found × AreCallWarnings text calls × (count ≡ own_count before found + own_count before calls)
+
+-- Sources after a front have this number of warnings in their own lines.
+pub record AreWarned (front : Front) (behind : List Source) (count : ℕ) : Type 0 where
+  pub before : ℕ
+  pub lines : CountsLines before (front_lines front)
+  pub counts : List ℕ
+  pub each : AllZip (λ s n. HasWarnings before s.text.now n) behind counts
+  pub all : count ≡ sum_by (λ n. n) counts
+
+-- The reports for what building sources after a front answers: a report for each warning about a jump and about a source; or errors, among
+-- them the one for which building refuses a source.
+abbrev pub AreReports : Front → List Source → Result Built BuildFault → List Report → Type 0
+AreReports front behind (Ok built) reports = (count : ℕ) × AreWarned front behind count × (length reports ≡ warning_count built + count)
+AreReports front behind (Err (build.Asm source fault)) reports = list_any (is_report_of source fault) reports ≡ true
+AreReports front behind (Err (build.Link fault)) reports = 0 < length reports
+
+-- What is said of sources after a front, given what building them answers.
+pub record IsExplainedBehind (front : Front) (grow : Bool) (files : List SourceFile) (has_program : Bool) (reports : List Report) : Type 0 where
+  pub behind : List Source
+  pub are : AllZip (IsBehind front) files behind
   pub building : Result Built BuildFault
-  pub built : IsBuilt grow sources building
+  pub built : IsBuilt grow behind building
   pub program : has_program ≡ is_ok building
-  pub reported : AreReports building reports
+  pub reported : AreReports front behind building reports
+
+-- there are errors, and no program
+abbrev pub AreFrontErrors : Bool → List Report → Type 0
+AreFrontErrors has_program reports = (has_program ≡ false) × (0 < length reports)
+
+-- What is said of sources and the front before them. If the front has an error by itself, the sources are not looked at.
+abbrev pub IsExplained : Front → Bool → List SourceFile → Bool → List Report → Type 0
+IsExplained front grow files has_program reports =
+    UnlessFaulty front (λ said. AreFrontErrors has_program reports) (IsExplainedBehind front grow files has_program reports)

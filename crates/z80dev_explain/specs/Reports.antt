@@ -10,11 +10,11 @@ use Rattle.z80dev_explain.specs.declared.report.Where.{Where}
 
 abbrev pub is_error : Severity → Bool
 is_error Severity.Error = true
-is_error Severity.Warning = false
+is_error _ = false
 
--- the place is in this line of the source with this number
+-- the place is reported by this line of the source with this number
 abbrev pub is_in_line : ℕ → ℕ → Option Where → Bool
-is_in_line source line at = option_map_or (λ w. (w.source == source) && (w.line == line)) at false
+is_in_line source line at = option_map_or (λ w. (w.source == source) && (w.reported == line)) at false
 
 -- the report is of this error of the source with this number: of its line, by its name
 abbrev pub is_report_of : ℕ → AsmFault → Report → Bool

@@ -1,34 +1,40 @@
 //! Explains why sources have no program, or what to look at in the one that they have.
 
-ghost use Rattle.std.specs.Prelude.{◌≡◌, ◌<◌, All, IfOk, length, map, option_copied, true};
-ghost use Rattle.std.specs.List.{AllZip, list_any};
+ghost use Rattle.std.specs.Prelude.{◌≡◌, ◌<◌, ◌+◌, ℕ, All, IfOk, List, length, map, option_copied, true};
+ghost use Rattle.std.specs.List.{AllZip, list_any, sum_by};
+ghost use Rattle.z80dev_make.specs.Front.{CountsLines, front_lines};
 ghost use Rattle.zmo_module.specs.Modules.{module_of};
 ghost use Rattle.zmo_module.specs.Rules.{IsModule};
-ghost use Rattle.z80dev_make.specs.Answers.{IsSource};
-ghost use Rattle.z80dev_explain.specs.Explained.{IsExplained};
+ghost use Rattle.z80dev_make.specs.Build.{IsBehind};
+ghost use Rattle.z80dev_explain.specs.Explained.{HasWarnings, IsExplained, IsExplainedBehind, warning_count};
 ghost use Rattle.z80dev_explain.specs.Reports.{is_in_line, is_error, is_report_of};
 
+use crate::errors::{put_error, put_errors};
 use crate::linking::{put_link_errors, put_plain};
+use crate::longs::long_jumps_of;
+use crate::mistakes::put_mistakes;
+use crate::printing::{Form, MOST_REPORTS};
 use crate::report::{Explained, Report, Severity, Where};
-use crate::sources::{put_alone, put_source};
+use crate::shared::{put_told, put_unshared};
+use crate::sources::{Sources, lines_of};
 use crate::warned::warnings_of;
 use asm_module::{AsmFault, Lines, Module, assemble_with};
 use std::alloc::{AllocError, Global};
-use z80dev_make::{SourceFile, why_name};
-use zlink::{BuildFault, LinkFault, Source, build_with};
+use z80dev_make::{
+    Front, SourceFile, Told, fault_of_front, front_lines, front_text, sources_behind, texts_behind,
+    why_name,
+};
+use zlink::{BuildFault, Built, LinkFault, Source, build_with};
 
-/// Answers the sources, whose names are their paths.
-fn sources_of<'a>(alloc: Global, files: &[SourceFile<'a>]) -> Result<Vec<Source<'a>>, AllocError>
-    ensures { IfOk result (λ sources. AllZip IsSource files.now sources.items) }
-{
-    let mut sources = Vec::with_capacity(alloc, files.len())?;
-    for file in files {
-        sources.push(Source {
-            name: file.path.as_bytes(),
-            text: file.text,
-        })?;
-    }
-    Ok(sources)
+/// What is asked about sources.
+#[derive(Clone, Copy)]
+pub struct Asked {
+    /// Whether a written `JR` may become a `JP`.
+    pub grow: bool,
+    /// Whether it is said of each long jump why it is long.
+    pub jumps: bool,
+    /// How the answer is printed.
+    pub form: Form,
 }
 
 /// Whether a place is in this line of the source with this number.
@@ -36,7 +42,7 @@ fn is_in_line(at: Option<&Where<'_>>, source: usize, line: u32) -> bool
     ensures { result ≡ is_in_line source line (option_copied at.entry) }
 {
     match at {
-        Some(at) => at.source == source && at.line == line,
+        Some(at) => at.source == source && at.reported == line,
         None => false,
     }
 }
@@ -62,7 +68,7 @@ fn has(reports: &[Report<'_>], source: usize, fault: AsmFault) -> bool
 /// By what reports are sorted: the source and the line.
 fn order_of(report: &Report<'_>) -> (usize, u32) {
     match &report.at {
-        Some(at) => (at.source, at.line),
+        Some(at) => (at.source, at.reported),
         None => (usize::MAX, 0),
     }
 }
@@ -76,23 +82,32 @@ fn sorted<'a>(reports: Vec<Report<'a>>) -> Result<Vec<Report<'a>>, AllocError>
     Ok(reports)
 }
 
+/// How many reports say all that is known: those that are printed.
+fn most_of(form: Form) -> usize {
+    match form {
+        Form::Plain | Form::Colored => MOST_REPORTS,
+        Form::Json => usize::MAX,
+    }
+}
+
 /// Answers the errors of all sources, given the first of them.
 fn errors_of<'a>(
     alloc: Global,
-    files: &[SourceFile<'a>],
-    grow: bool,
+    sources: &Sources<'_, 'a>,
+    asked: Asked,
     source: usize,
     fault: AsmFault,
 ) -> Result<Vec<Report<'a>>, AllocError>
     ensures { IfOk result (λ reports. list_any (is_report_of source fault) reports.items ≡ true) }
 {
     let mut reports = Vec::new(alloc);
-    for (number, file) in files.iter().enumerate() {
-        put_source(alloc, number, file, grow, &mut reports)?;
+    for number in 0..sources.files.len() {
+        let most = most_of(asked.form);
+        put_errors(alloc, sources, number, asked.grow, most, &mut reports)?;
     }
     let mut reports = sorted(reports)?;
     if !has(&reports, source, fault) {
-        put_alone(alloc, files, source, fault, &mut reports)?;
+        put_error(alloc, sources, source, fault, &mut reports)?;
     }
     Ok(reports)
 }
@@ -125,16 +140,16 @@ fn assemble_all(alloc: Global, sources: &[Source<'_>], grow: bool) -> Result<Ass
 /// Answers the errors of the modules of sources together, given the first of them.
 fn link_errors_of<'a>(
     alloc: Global,
-    files: &[SourceFile<'a>],
-    sources: &[Source<'_>],
+    sources: &Sources<'_, 'a>,
+    behind: &[Source<'_>],
     grow: bool,
     fault: &LinkFault,
 ) -> Result<Vec<Report<'a>>, AllocError>
     ensures { IfOk result (λ reports. 0 < length reports.items) }
 {
-    let Assembled { modules, lines } = assemble_all(alloc, sources, grow)?;
+    let Assembled { modules, lines } = assemble_all(alloc, behind, grow)?;
     let mut reports = Vec::new(alloc);
-    put_link_errors(alloc, files, &modules, &lines, fault, &mut reports)?;
+    put_link_errors(alloc, sources, &modules, &lines, fault, &mut reports)?;
     let mut reports = sorted(reports)?;
     if reports.is_empty() {
         put_plain(alloc, fault, &mut reports)?;
@@ -142,32 +157,131 @@ fn link_errors_of<'a>(
     Ok(reports)
 }
 
-/// Builds sources, writes nothing, and answers their errors, in the order of the sources and their lines; or if there are none, the warnings
-/// about jumps.
+/// Answers all warnings about a program that was built of sources, and about these.
+fn all_warnings<'a>(
+    alloc: Global,
+    sources: &Sources<'_, 'a>,
+    behind: &[Source<'_>],
+    built: &Built,
+) -> Result<Vec<Report<'a>>, AllocError>
+    requires { All IsModule (map module_of built.now.modules.items) }
+    ensures { IfOk result (λ reports. (counts : List ℕ) × AllZip (λ s n. HasWarnings sources.now.before s.text.now n) behind.now counts
+        × (length reports.items ≡ warning_count built.now + sum_by (λ n. n) counts)) }
+{
+    let mut reports = warnings_of(alloc, sources, built)?;
+    put_mistakes(alloc, sources, behind, &mut reports)?;
+    sorted(reports)
+}
+
+/// Answers the notes about the long jumps of a program, if they are wanted.
+fn longs_of<'a>(
+    alloc: Global,
+    wanted: bool,
+    sources: &Sources<'_, 'a>,
+    built: &Built,
+) -> Result<Vec<Report<'a>>, AllocError>
+    requires { All IsModule (map module_of built.now.modules.items) }
+{
+    if wanted {
+        long_jumps_of(alloc, sources, built)
+    } else {
+        Ok(Vec::new(alloc))
+    }
+}
+
+/// Answers what is said of sources after a front.
+fn explain_behind<'a>(
+    alloc: Global,
+    sources: &Sources<'_, 'a>,
+    behind: &[Source<'_>],
+    asked: Asked,
+) -> Result<Explained<'a>, AllocError>
+    requires are { AllZip (IsBehind sources.now.front) sources.now.files.now behind.now }
+    requires before { CountsLines sources.now.before (front_lines sources.now.front) }
+    ensures { IfOk result (λ e. IsExplainedBehind sources.now.front asked.grow sources.now.files.now e.has_program e.reports.items) }
+{
+    let grow = asked.grow;
+    match build_with(alloc, behind, grow) {
+        Ok(built) => Ok(Explained {
+            has_program: true,
+            reports: all_warnings(alloc, sources, behind, &built)?,
+            longs: longs_of(alloc, asked.jumps, sources, &built)?,
+        }),
+        Err(BuildFault::Asm { source, fault }) => Ok(Explained {
+            has_program: false,
+            reports: errors_of(alloc, sources, asked, source, fault)?,
+            longs: Vec::new(alloc),
+        }),
+        Err(BuildFault::Link(fault)) => Ok(Explained {
+            has_program: false,
+            reports: link_errors_of(alloc, sources, behind, grow, &fault)?,
+            longs: Vec::new(alloc),
+        }),
+    }
+}
+
+/// Answers the errors of a front, given its text and the first of them.
+fn front_errors<'a>(
+    alloc: Global,
+    front: Front<'a>,
+    before: Vec<u8>,
+    told: Told<'a>,
+    form: Form,
+) -> Result<Vec<Report<'a>>, AllocError>
+    ensures { IfOk result (λ reports. 0 < length reports.items) }
+{
+    let mut texts = Vec::new(alloc);
+    texts.push(before)?;
+    let lines = lines_of(alloc, &texts)?;
+    let sources = Sources {
+        front,
+        before: 0,
+        files: &[],
+        texts: &texts,
+        lines: &lines,
+    };
+    let mut reports = Vec::new(alloc);
+    let most = most_of(form);
+    put_errors(alloc, &sources, 0, false, most, &mut reports)?;
+    put_unshared(alloc, &sources, &mut reports)?;
+    let mut reports = sorted(reports)?;
+    if reports.is_empty() {
+        put_told(alloc, told, &mut reports)?;
+    }
+    Ok(reports)
+}
+
+/// Builds sources after a front, writes nothing, and answers their errors, in the order of the sources and their lines; or if there are none,
+/// the warnings about jumps. If the front has errors by itself, it answers only these.
 ///
 /// # Errors
 ///
 /// [`AllocError`] if memory ran out.
 pub fn explain<'a>(
     alloc: Global,
+    front: Front<'a>,
     files: &[SourceFile<'a>],
-    grow: bool,
+    asked: Asked,
 ) -> Result<Explained<'a>, AllocError>
-    ensures { IfOk result (λ e. IsExplained grow files.now e.has_program e.reports.items) }
+    ensures { IfOk result (λ e. IsExplained front.entry asked.grow files.now e.has_program e.reports.items) }
 {
-    let sources = sources_of(alloc, files)?;
-    match build_with(alloc, &sources, grow) {
-        Ok(built) => Ok(Explained {
-            has_program: true,
-            reports: sorted(warnings_of(alloc, files, &built)?)?,
-        }),
-        Err(BuildFault::Asm { source, fault }) => Ok(Explained {
+    let before = front_text(alloc, front)?;
+    if let Some(told) = fault_of_front(alloc, front, &before)? {
+        return Ok(Explained {
             has_program: false,
-            reports: errors_of(alloc, files, grow, source, fault)?,
-        }),
-        Err(BuildFault::Link(fault)) => Ok(Explained {
-            has_program: false,
-            reports: link_errors_of(alloc, files, &sources, grow, &fault)?,
-        }),
+            reports: front_errors(alloc, front, before, told, asked.form)?,
+            longs: Vec::new(alloc),
+        });
     }
+    let texts = texts_behind(alloc, &before, files)?;
+    let lines = lines_of(alloc, &texts)?;
+    let sources = Sources {
+        front,
+        before: front_lines(front),
+        files,
+        texts: &texts,
+        lines: &lines,
+    };
+    let behind = sources_behind(alloc, front, files, &texts)?;
+    explain_behind(alloc, &sources, &behind, asked)
 }

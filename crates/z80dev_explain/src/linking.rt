@@ -4,15 +4,16 @@ ghost use Rattle.std.specs.Prelude.{◌<◌, All, OnOk, length, map};
 ghost use Rattle.zmo_module.specs.Modules.{module_of};
 ghost use Rattle.zmo_module.specs.Rules.{IsModule};
 
-use crate::joined::{Sought, find};
+use crate::joined::{NameLines, Sought, find};
 use crate::reaching::{put_range, put_size};
 use crate::report::{Report, Severity, Where};
+use crate::sources::Sources;
 use asm_module::{Lines, Module};
 use common::{KeyMixer, NameKey};
 use error_messages::Note;
 use indexmap::IndexMap;
 use std::alloc::{AllocError, Global};
-use z80dev_make::{Refusal, SourceFile, Told};
+use z80dev_make::{Refusal, Told};
 use zlink::{JoinFault, LinkFault, Misfit};
 
 /// The names of errors as a refusal prints them.
@@ -81,48 +82,50 @@ fn key_of(modules: &[Module]) -> NameKey {
     mixer.key()
 }
 
-/// Answers the path of a source.
-pub(crate) fn path_of<'a>(files: &[SourceFile<'a>], source: usize) -> &'a str {
-    match files.get(source) {
-        Some(file) => file.path,
-        None => "",
-    }
+/// The sources, and in each the lines of its names.
+#[derive(Clone, Copy)]
+struct Named<'n, 's, 'f> {
+    sources: &'n Sources<'s, 'f>,
+    names: &'n [NameLines],
 }
 
-/// Answers where in a source something is, if there is such a source.
-fn found_in<'a>(
-    alloc: Global,
-    files: &[SourceFile<'a>],
-    source: usize,
-    sought: Sought<'_>,
-) -> Result<Option<Where<'a>>, AllocError> {
-    match files.get(source) {
-        Some(file) => Ok(Some(find(alloc, source, file, sought)?)),
-        None => Ok(None),
+impl<'n, 's, 'f> Named<'n, 's, 'f> {
+    /// The line of a label of a source; 1 if it has none.
+    fn label(&self, source: usize, name: &[u8]) -> u32 {
+        match self.names.get(source) {
+            Some(names) => names.label(name),
+            None => 1,
+        }
+    }
+
+    /// The line of the EXTRN of a name; 1 if there is none.
+    fn external(&self, source: usize, name: &[u8]) -> u32 {
+        match self.names.get(source) {
+            Some(names) => names.external(name),
+            None => 1,
+        }
     }
 }
 
 /// Answers the report of a label that is public in two modules.
 fn twice<'a>(
     alloc: Global,
-    files: &[SourceFile<'a>],
+    named: Named<'_, '_, 'a>,
     name: &[u8],
     first: Public,
     second: Public,
 ) -> Result<Report<'a>, AllocError> {
     let shown = shown(name);
-    let at = found_in(alloc, files, second.module, Sought::Label(name))?;
-    let path = path_of(files, first.module);
-    let note = match found_in(alloc, files, first.module, Sought::Label(name))? {
-        Some(other) => {
-            let line = other.line;
-            format!(in alloc; "first in {path}, line {line}")?
-        }
-        None => format!(in alloc; "first in {path}")?,
-    };
+    let line = named.label(second.module, name);
+    let at = named.sources.named(alloc, second.module, line, name)?;
+    let other = named
+        .sources
+        .located(first.module, named.label(first.module, name));
+    let (path, line) = (other.path, other.line);
+    let note = format!(in alloc; "first in {path}, line {line}")?;
     error_at(
         alloc,
-        at,
+        Some(at),
         format!(in alloc; "`{shown}` is public in two sources")?,
         Refusal::Modules(JoinFault::DefinedTwice(second.module, second.label)),
         Some(Note::Note(note)),
@@ -134,7 +137,7 @@ impl<'a> Publics<'a> {
     fn add<'f>(
         &mut self,
         alloc: Global,
-        files: &[SourceFile<'f>],
+        named: Named<'_, '_, 'f>,
         number: usize,
         module: &'a Module,
         reports: &mut Vec<Report<'f>>,
@@ -149,7 +152,7 @@ impl<'a> Publics<'a> {
                 label: *label,
             };
             match self.names.get(name).copied() {
-                Some(first) => reports.push(twice(alloc, files, name, first, own)?)?,
+                Some(first) => reports.push(twice(alloc, named, name, first, own)?)?,
                 None => {
                     self.names.insert(name, own)?;
                 }
@@ -162,14 +165,14 @@ impl<'a> Publics<'a> {
     fn put_unresolved<'f>(
         &self,
         alloc: Global,
-        files: &[SourceFile<'f>],
+        named: Named<'_, '_, 'f>,
         number: usize,
         module: &Module,
         reports: &mut Vec<Report<'f>>,
     ) -> Result<(), AllocError> {
         for (external, name) in module.externals.iter().enumerate() {
             if self.names.get(name.as_slice()).is_none() {
-                reports.push(unresolved(alloc, files, number, external, name)?)?;
+                reports.push(unresolved(alloc, named, number, external, name)?)?;
             }
         }
         Ok(())
@@ -179,15 +182,16 @@ impl<'a> Publics<'a> {
 /// Answers the report of an external that is public nowhere.
 fn unresolved<'a>(
     alloc: Global,
-    files: &[SourceFile<'a>],
+    named: Named<'_, '_, 'a>,
     module: usize,
     external: usize,
     name: &[u8],
 ) -> Result<Report<'a>, AllocError> {
     let shown = shown(name);
+    let line = named.external(module, name);
     error_at(
         alloc,
-        found_in(alloc, files, module, Sought::External(name))?,
+        Some(named.sources.named(alloc, module, line, name)?),
         format!(in alloc; "`{shown}` is public in no source")?,
         Refusal::Modules(JoinFault::Unresolved(module, external)),
         Some(Note::Help(format!(in alloc;
@@ -199,18 +203,26 @@ fn unresolved<'a>(
 /// Reports all names that are public twice, and all externals that are public nowhere.
 fn put_names<'a>(
     alloc: Global,
-    files: &[SourceFile<'a>],
+    sources: &Sources<'_, 'a>,
     modules: &[Module],
     reports: &mut Vec<Report<'a>>,
 ) -> Result<(), AllocError> {
+    let mut names = Vec::with_capacity(alloc, modules.len())?;
+    for number in 0..modules.len() {
+        names.push(NameLines::of(alloc, sources.text(number))?)?;
+    }
+    let named = Named {
+        sources,
+        names: &names,
+    };
     let mut publics = Publics {
         names: IndexMap::with_hasher(alloc, key_of(modules)),
     };
     for (number, module) in modules.iter().enumerate() {
-        publics.add(alloc, files, number, module, reports)?;
+        publics.add(alloc, named, number, module, reports)?;
     }
     for (number, module) in modules.iter().enumerate() {
-        publics.put_unresolved(alloc, files, number, module, reports)?;
+        publics.put_unresolved(alloc, named, number, module, reports)?;
     }
     Ok(())
 }
@@ -218,13 +230,13 @@ fn put_names<'a>(
 /// Answers the report of an ORG in a source that is not the first.
 fn begins_late<'a>(
     alloc: Global,
-    files: &[SourceFile<'a>],
+    sources: &Sources<'_, 'a>,
     module: usize,
 ) -> Result<Report<'a>, AllocError> {
-    let path = path_of(files, module);
+    let path = sources.path(module);
     error_at(
         alloc,
-        found_in(alloc, files, module, Sought::Origin)?,
+        Some(find(alloc, sources, module, Sought::Origin)?),
         String::from_str(alloc, "only the first source may have an ORG")?,
         Refusal::Modules(JoinFault::BeginsNotFirst(module)),
         Some(Note::Help(format!(in alloc; "give {path} first, or leave the ORG out")?)),
@@ -234,12 +246,12 @@ fn begins_late<'a>(
 /// Answers the report of an END whose entry is not where the program begins.
 fn entry_late<'a>(
     alloc: Global,
-    files: &[SourceFile<'a>],
+    sources: &Sources<'_, 'a>,
     module: usize,
 ) -> Result<Report<'a>, AllocError> {
     error_at(
         alloc,
-        found_in(alloc, files, module, Sought::End)?,
+        Some(find(alloc, sources, module, Sought::End)?),
         String::from_str(
             alloc,
             "a program starts with its first statement, and END names another",
@@ -255,7 +267,7 @@ fn entry_late<'a>(
 /// Reports the errors of modules together, given the first of them.
 pub(crate) fn put_link_errors<'a>(
     alloc: Global,
-    files: &[SourceFile<'a>],
+    sources: &Sources<'_, 'a>,
     modules: &[Module],
     lines: &[Lines],
     fault: &LinkFault,
@@ -271,19 +283,19 @@ pub(crate) fn put_link_errors<'a>(
             Refusal::of_link(fault),
             None,
         )?)?,
-        LinkFault::BeginsNotFirst(module) => reports.push(begins_late(alloc, files, *module)?)?,
-        LinkFault::EntryNotFirst(module) => reports.push(entry_late(alloc, files, *module)?)?,
+        LinkFault::BeginsNotFirst(module) => reports.push(begins_late(alloc, sources, *module)?)?,
+        LinkFault::EntryNotFirst(module) => reports.push(entry_late(alloc, sources, *module)?)?,
         LinkFault::DefinedTwice(..) | LinkFault::Unresolved(..) => {
-            put_names(alloc, files, modules, reports)?
+            put_names(alloc, sources, modules, reports)?
         }
         LinkFault::NoFit {
             why: Misfit::Range(_),
             ..
-        } => put_range(alloc, files, modules, lines, reports)?,
+        } => put_range(alloc, sources, modules, lines, reports)?,
         LinkFault::NoFit {
             why: Misfit::TooLarge(total),
             ..
-        } => put_size(alloc, files, modules, lines, *total, reports)?,
+        } => put_size(alloc, sources, modules, lines, *total, reports)?,
         LinkFault::NoMemory => return Err(AllocError),
     }
     Ok(())

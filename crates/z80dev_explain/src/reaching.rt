@@ -4,15 +4,17 @@ ghost use Rattle.std.specs.Prelude.{All, map};
 ghost use Rattle.zmo_module.specs.Modules.{module_of};
 ghost use Rattle.zmo_module.specs.Rules.{IsModule};
 
-use crate::joined::where_at;
-use crate::linking::{error_at, path_of, shown};
+use crate::linking::{error_at, shown};
+use crate::placing::Site;
 use crate::report::Report;
+use crate::sources::{Sources, mentioned};
+use crate::statements::Expansions;
 use asm_module::{Lines, Module};
 use error_messages::Note;
 use relax::least;
 use std::alloc::{AllocError, Global};
 use z80_instr::{Branch, ShortCond};
-use z80dev_make::{Refusal, SourceFile};
+use z80dev_make::Refusal;
 use zlink::laws::laid_out;
 use zlink::{Links, Misfit, join, places_of, shape_of};
 use zmo_module::Statement;
@@ -32,18 +34,18 @@ const SHORT: u32 = 2;
 /// fewest bytes.
 #[derive(Drop)]
 struct Placed<'p, 'f> {
-    files: &'p [SourceFile<'f>],
+    sources: &'p Sources<'p, 'f>,
     modules: &'p [Module],
     lines: &'p [Lines],
     links: Vec<Links>,
     places: Vec<u32>,
+    expansions: Expansions,
 }
 
 /// A jump that does not reach its target.
 #[derive(Clone, Copy)]
-struct Far<'p> {
+struct Far {
     branch: Branch,
-    target: &'p [u8],
     distance: u32,
     is_back: bool,
 }
@@ -51,7 +53,7 @@ struct Far<'p> {
 /// Answers where the statements of modules are.
 fn place_all<'p, 'f>(
     alloc: Global,
-    files: &'p [SourceFile<'f>],
+    sources: &'p Sources<'p, 'f>,
     modules: &'p [Module],
     lines: &'p [Lines],
 ) -> Result<Placed<'p, 'f>, AllocError>
@@ -66,34 +68,13 @@ fn place_all<'p, 'f>(
     let growth = least(alloc, &shape)?;
     let places = places_of(alloc, shape.statements(), &growth.long)?;
     Ok(Placed {
-        files,
+        sources,
         modules,
         lines,
         links,
         places,
+        expansions: Expansions::of(alloc, sources)?,
     })
-}
-
-/// Answers the name of the first label at a statement; `$` if there is none.
-fn label_at(module: &Module, statement: usize) -> &[u8] {
-    for label in &module.labels {
-        if usize::from(label.statement) == statement {
-            return &label.name;
-        }
-    }
-    b"$"
-}
-
-/// Answers the name for which a ref of a module stands.
-fn name_of(module: &Module, reference: usize) -> &[u8] {
-    let count = module.statements.len();
-    if reference <= count {
-        return label_at(module, reference);
-    }
-    match module.externals.get(reference - count - 1) {
-        Some(name) => name,
-        None => b"?",
-    }
 }
 
 impl<'p, 'f> Placed<'p, 'f> {
@@ -128,7 +109,7 @@ impl<'p, 'f> Placed<'p, 'f> {
         at: usize,
         branch: Branch,
         reference: usize,
-    ) -> Option<Far<'p>> {
+    ) -> Option<Far> {
         let own = self.statement_of(number, module, at);
         let next = self.place(own).saturating_add(SHORT);
         let target = self.place(self.statement_of(number, module, reference));
@@ -140,7 +121,6 @@ impl<'p, 'f> Placed<'p, 'f> {
         }
         Some(Far {
             branch,
-            target: name_of(module, reference),
             distance,
             is_back,
         })
@@ -157,28 +137,42 @@ impl<'p, 'f> Placed<'p, 'f> {
         }
     }
 
-    /// Answers the report of a jump that does not reach its target.
+    /// Answers the name for which a ref of a module stands in a line.
+    fn name(
+        &self,
+        alloc: Global,
+        line: &[u8],
+        module: &'p Module,
+        reference: usize,
+    ) -> Result<&'p [u8], AllocError> {
+        let count = module.statements.len();
+        if reference <= count {
+            return mentioned(alloc, line, module, reference);
+        }
+        match module.externals.get(reference - count - 1) {
+            Some(name) => Ok(name),
+            None => Ok(b"?"),
+        }
+    }
+
+    /// Answers the report of a jump that does not reach its target, which has this name.
     fn report(
         &self,
         alloc: Global,
         number: usize,
         statement: u32,
-        line: u32,
-        far: Far<'p>,
+        site: Site<'_>,
+        far: Far,
+        target: &[u8],
     ) -> Result<Report<'f>, AllocError> {
-        let at = match self.files.get(number) {
-            Some(file) => Some(where_at(alloc, number, file, line, far.target)?),
-            None => None,
-        };
-        let help = Note::Help(far.help(alloc)?);
-        let text = far.text(alloc)?;
-        error_at(
-            alloc,
-            at,
-            text,
-            Refusal::NoFit(Misfit::Range(statement)),
-            Some(help),
-        )
+        let at = self.sources.mark(alloc, number, site, target)?;
+        let help = Note::Help(far.help(alloc, target)?);
+        let text = far.text(alloc, target)?;
+        let refusal = Refusal::NoFit(Misfit::Range(statement));
+        let mut report = error_at(alloc, Some(at), text, refusal, Some(help))?;
+        self.sources
+            .put_calls(alloc, number, site, &mut report.notes)?;
+        Ok(report)
     }
 
     /// Reports a statement, if it is a jump that does not reach its target.
@@ -198,7 +192,9 @@ impl<'p, 'f> Placed<'p, 'f> {
         };
         let statement = u32::try_from(self.statement_of(number, module, at)).unwrap_or(u32::MAX);
         let line = self.line_at(number, at);
-        reports.push(self.report(alloc, number, statement, line, far)?)?;
+        let site = self.expansions.site(self.sources, number, at, line);
+        let name = self.name(alloc, site.text, module, usize::from(*target))?;
+        reports.push(self.report(alloc, number, statement, site, far, name)?)?;
         Ok(())
     }
 
@@ -235,10 +231,10 @@ fn condition_text(condition: Option<ShortCond>) -> &'static str {
     }
 }
 
-impl Far<'_> {
+impl Far {
     /// What is wrong.
-    fn text(&self, alloc: Global) -> Result<String, AllocError> {
-        let name = shown(self.target);
+    fn text(&self, alloc: Global, target: &[u8]) -> Result<String, AllocError> {
+        let name = shown(target);
         let word = match self.branch {
             Branch::Relative(_) => "JR",
             Branch::CountDown => "DJNZ",
@@ -257,8 +253,8 @@ impl Far<'_> {
     }
 
     /// What to write instead.
-    fn help(&self, alloc: Global) -> Result<String, AllocError> {
-        let name = shown(self.target);
+    fn help(&self, alloc: Global, target: &[u8]) -> Result<String, AllocError> {
+        let name = shown(target);
         match self.branch {
             Branch::Relative(condition) => {
                 let condition = condition_text(condition);
@@ -272,14 +268,14 @@ impl Far<'_> {
 /// Reports all jumps that are always short and do not reach their targets, in the choice of the others that takes the fewest bytes.
 pub(crate) fn put_range<'f>(
     alloc: Global,
-    files: &[SourceFile<'f>],
+    sources: &Sources<'_, 'f>,
     modules: &[Module],
     lines: &[Lines],
     reports: &mut Vec<Report<'f>>,
 ) -> Result<(), AllocError>
     requires { All IsModule (map module_of modules.now) }
 {
-    let placed = place_all(alloc, files, modules, lines)?;
+    let placed = place_all(alloc, sources, modules, lines)?;
     for (number, module) in modules.iter().enumerate() {
         placed.put_module(alloc, number, module, reports)?;
     }
@@ -294,7 +290,7 @@ fn put_size_of(
     module: &Module,
     notes: &mut Vec<Note>,
 ) -> Result<(), AllocError> {
-    let path = path_of(placed.files, number);
+    let path = placed.sources.path(number);
     let bytes = placed.size(number, module);
     notes.push(Note::Note(format!(in alloc; "{path} takes {bytes} bytes")?))?;
     Ok(())
@@ -303,7 +299,7 @@ fn put_size_of(
 /// Reports that a program takes too many bytes.
 pub(crate) fn put_size<'f>(
     alloc: Global,
-    files: &[SourceFile<'f>],
+    sources: &Sources<'_, 'f>,
     modules: &[Module],
     lines: &[Lines],
     total: u32,
@@ -311,7 +307,7 @@ pub(crate) fn put_size<'f>(
 ) -> Result<(), AllocError>
     requires { All IsModule (map module_of modules.now) }
 {
-    let placed = place_all(alloc, files, modules, lines)?;
+    let placed = place_all(alloc, sources, modules, lines)?;
     let over = total.saturating_sub(MOST_BYTES);
     let text = format!(in alloc;
         "the program takes at least {total} bytes, {over} too many (at most {MOST_BYTES})"

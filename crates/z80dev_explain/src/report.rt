@@ -9,17 +9,23 @@ pub enum Severity {
     Error,
     /// There is a program, which may not do what its writer meant.
     Warning,
+    /// It says something about the program that is no fault.
+    Note,
 }
 
-/// A part of a line of a source.
+/// A part of a line of a file.
 #[derive(Debug, Drop)]
 pub struct Where<'a> {
     pub path: &'a str,
     /// The number of the source, from 0.
     pub source: usize,
-    /// The number of the line, from 1.
+    /// The line by which building reports this: counted from the first line of the shared files, and in a macro that of the outermost call.
+    pub reported: u32,
+    /// The number of the line in its own file, from 1. In a macro it is a line of the body.
     pub line: u32,
-    /// The line as it is assembled.
+    /// The byte of that line where the part begins, from 1.
+    pub column: usize,
+    /// The line as it is assembled, with the arguments of a call in place of its parameters.
     pub text: Vec<u8>,
     /// Which part of it.
     pub place: Place,
@@ -31,7 +37,7 @@ pub struct Report<'a> {
     pub severity: Severity,
     /// None if it is about the program as a whole.
     pub at: Option<Where<'a>>,
-    /// What is wrong.
+    /// What is wrong. Empty in an error that is only counted: the texts of those after the hundredth are not made, unless all are printed.
     pub text: String,
     /// The name of the error, as a refusal prints it. Empty for a warning.
     pub name: String,
@@ -46,4 +52,6 @@ pub struct Explained<'a> {
     pub has_program: bool,
     /// Their errors or warnings, in the order of the sources and their lines.
     pub reports: Vec<Report<'a>>,
+    /// Notes about its long jumps, if they are wanted: first those of which the fewest bytes are missing.
+    pub longs: Vec<Report<'a>>,
 }

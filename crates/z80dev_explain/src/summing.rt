@@ -4,11 +4,11 @@ ghost use Rattle.std.specs.Prelude.{◌≡◌, IfOk, None, string_bytes};
 ghost use Rattle.std.specs.Option.{option_map};
 ghost use Rattle.z80dev_explain.specs.Explanation.{IsExplanation, IsFine};
 
-use crate::explaining::explain;
+use crate::explaining::{Asked, explain};
 use crate::printing::print_reports;
 use crate::report::{Explained, Report};
 use std::alloc::{AllocError, Global};
-use z80dev_make::SourceFile;
+use z80dev_make::{Front, SourceFile};
 
 /// What is said of sources.
 #[derive(Debug, Drop)]
@@ -46,23 +46,26 @@ fn summary(
     Ok(Some(counted(alloc, reports.len(), "warning")?))
 }
 
-/// Builds sources, writes nothing, and answers what the command `explain` prints of them, and how it sums that up.
+/// Builds sources after a front, writes nothing, and answers what the command `explain` prints of them, and how it sums that up.
 ///
 /// # Errors
 ///
 /// [`AllocError`] if memory ran out.
 pub fn explain_sources(
     alloc: Global,
+    front: Front<'_>,
     files: &[SourceFile<'_>],
-    grow: bool,
+    asked: Asked,
 ) -> Result<Explanation, AllocError>
-    ensures { IfOk result (λ e. IsExplanation grow files.now e.text.items (option_map (λ s. string_bytes s) e.summary)) }
+    ensures { IfOk result (λ e. IsExplanation front.entry asked.grow files.now e.text.items (option_map (λ s. string_bytes s) e.summary)) }
 {
     let Explained {
         has_program,
         reports,
-    } = explain(alloc, files, grow)?;
+        longs,
+    } = explain(alloc, front, files, asked)?;
     let summary = summary(alloc, has_program, &reports)?;
-    let text = print_reports(alloc, &reports)?;
+    let mut text = print_reports(alloc, asked.form, &reports)?;
+    text.extend_from_slice(&print_reports(alloc, asked.form, &longs)?)?;
     Ok(Explanation { text, summary })
 }

@@ -5,46 +5,113 @@ ghost use Rattle.zmo_module.specs.Modules.{module_of};
 ghost use Rattle.zmo_module.specs.Rules.{IsModule};
 ghost use Rattle.z80dev_explain.specs.Explained.{warning_count};
 
-use crate::joined::where_at;
 use crate::report::{Report, Severity};
+use crate::sources::Sources;
+use crate::statements::Expansions;
+use jump_warnings::{Part, Site, Warning, find_warnings};
 use std::alloc::{AllocError, Global};
-use z80dev_make::{JumpWarning, SourceFile, jump_warnings};
-use zlink::Built;
+use z80dev_make::{JumpWarning, jump_warnings};
+use zlink::{Built, JoinFault, join};
 
-/// Answers the report of a warning.
-fn report_of<'a>(
-    alloc: Global,
-    files: &[SourceFile<'a>],
-    warning: &JumpWarning,
-) -> Result<Report<'a>, AllocError> {
-    let source = warning.source;
-    let shown = str::from_utf8(&warning.text).unwrap_or("?");
-    let at = match files.get(source) {
-        Some(file) => Some(where_at(alloc, source, file, warning.line, b"")?),
-        None => None,
+/// Answers the statements that the warnings about the jumps of a program are about, in the order of the warnings.
+fn sites_of(alloc: Global, built: &Built) -> Result<Vec<Site>, AllocError>
+    requires { All IsModule (map module_of built.now.modules.items) }
+{
+    let links = match join(alloc, &built.modules) {
+        Ok(links) => links,
+        Err(JoinFault::NoMemory) => return Err(AllocError),
+        Err(_) => return Ok(Vec::new(alloc)),
     };
-    Ok(Report {
-        severity: Severity::Warning,
-        at,
-        text: String::from_str(alloc, shown)?,
-        name: String::new(alloc),
-        notes: Vec::new(alloc),
-    })
+    let mut parts = Vec::with_capacity(alloc, links.len())?;
+    for (module, link) in built.modules.iter().zip(&links) {
+        parts.push(Part {
+            module,
+            externals: &link.externals,
+        })?;
+    }
+    let mut sites = Vec::new(alloc);
+    for warning in &find_warnings(alloc, &parts)? {
+        sites.push(match warning {
+            Warning::Over(site, _, _) | Warning::Entry(site) => *site,
+        })?;
+    }
+    Ok(sites)
+}
+
+/// What is known of the statements that warnings are about.
+#[derive(Drop)]
+struct Warned<'w, 's, 'f> {
+    sources: &'w Sources<'s, 'f>,
+    /// The statement of each warning.
+    sites: Vec<Site>,
+    expansions: Expansions,
+}
+
+impl<'w, 's, 'f> Warned<'w, 's, 'f> {
+    /// Answers the report of a warning, which has this number.
+    fn report(
+        &self,
+        alloc: Global,
+        number: usize,
+        warning: &JumpWarning,
+    ) -> Result<Report<'f>, AllocError> {
+        let shown = str::from_utf8(&warning.text).unwrap_or("?");
+        let statement = match self.sites.get(number) {
+            Some(site) => site.statement,
+            None => usize::MAX,
+        };
+        let line = self.sources.after_front(warning.line);
+        let site = self
+            .expansions
+            .site(self.sources, warning.source, statement, line);
+        let mut notes = Vec::new(alloc);
+        self.sources
+            .put_calls(alloc, warning.source, site, &mut notes)?;
+        Ok(Report {
+            severity: Severity::Warning,
+            at: Some(self.sources.mark(alloc, warning.source, site, b"")?),
+            text: String::from_str(alloc, shown)?,
+            name: String::new(alloc),
+            notes,
+        })
+    }
+}
+
+/// Answers the reports of warnings about the jumps of a program.
+fn reports_of<'a>(
+    alloc: Global,
+    sources: &Sources<'_, 'a>,
+    built: &Built,
+    warnings: &[JumpWarning],
+) -> Result<Vec<Report<'a>>, AllocError>
+    requires { All IsModule (map module_of built.now.modules.items) }
+    ensures { IfOk result (λ reports. length reports.items ≡ length warnings.now) }
+{
+    let mut reports = Vec::new(alloc);
+    if warnings.is_empty() {
+        return Ok(reports);
+    }
+    let warned = Warned {
+        sources,
+        sites: sites_of(alloc, built)?,
+        expansions: Expansions::of(alloc, sources)?,
+    };
+    for (number, warning) in warnings.iter().enumerate() {
+        reports.push(warned.report(alloc, number, warning)?)?;
+    }
+    Ok(reports)
 }
 
 /// Answers the reports of the warnings about the jumps of a program.
 pub(crate) fn warnings_of<'a>(
     alloc: Global,
-    files: &[SourceFile<'a>],
+    sources: &Sources<'_, 'a>,
     built: &Built,
 ) -> Result<Vec<Report<'a>>, AllocError>
     requires { All IsModule (map module_of built.now.modules.items) }
     ensures { IfOk result (λ reports. length reports.items ≡ warning_count built.now) }
 {
-    let mut reports = Vec::new(alloc);
-    let warnings = jump_warnings(alloc, files, built)?;
-    for warning in &warnings {
-        reports.push(report_of(alloc, files, warning)?)?;
-    }
+    let warnings = jump_warnings(alloc, sources.front, sources.files, built)?;
+    let reports = reports_of(alloc, sources, built, &warnings)?;
     Ok(reports)
 }

@@ -19,7 +19,7 @@ use Rattle.asm_module.specs.declared.fault.Why.{Why}
 use Rattle.asm_module.specs.declared.line_fault.LineFault.{LineFault}
 use Rattle.source_errors.specs.declared.counting.Counting.{Counting}
 use Rattle.source_errors.specs.declared.counting.Origin.{Origin}
-use Rattle.source_errors.specs.Counted.{Counted, after_colon, lines_counted, counts_as, early, defined_name_alone, takens}
+use Rattle.source_errors.specs.Counted.{Counted, after_colon, lines_counted, counts_as, early, meant_as, takens}
 use Rattle.source_errors.specs.Findings.{finding_of}
 
 -- what a line parses as, in the terms of the definitions
@@ -83,7 +83,7 @@ pub record Appends (from : Numbered) (is_read : Bool) (taken : Option Taken) (ol
 pub record Refuses (l : Numbered) (why : Why) (name : Option (List ℕ)) (is_read : Bool) (old new : Counting) : Type 0 where
   pub sound : IsCounting new
   pub lines : counted_in new ≡ counted_in old ++ option_to_list (option_map (λ t. record { from = l; is_read = is_read; taken = t })
-      (first (counts_as (lines_of old.lines.items) l.number (defined_name_alone l.text) ∷ counts_as (lines_of old.lines.items) l.number (after_colon l.text) ∷ [])))
+      (first (counts_as (lines_of old.lines.items) l.number (meant_as l.text) ∷ counts_as (lines_of old.lines.items) l.number (after_colon l.text) ∷ [])))
   pub findings : map finding_of new.findings.items ≡ map finding_of old.findings.items ++ record { line = l; why = why; name = name } ∷ []
 
 -- an error of a name as one of a source; None if memory ran out

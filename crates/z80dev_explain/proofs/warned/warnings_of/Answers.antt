@@ -1,4 +1,4 @@
-use Rattle.std.proofs.Common.{◌≡◌, ◌∙◌, ap, length, map, refl, List, [], ◌∷◌}
+use Rattle.std.proofs.Common.{◌≡◌, ap, length, map, refl, List, [], ◌∷◌}
 use Rattle.std.specs.List.{AllZip}
 use native.Mathlib.Omega.{arith}
 use Rattle.zmo_module.specs.Modules.{module_of}
@@ -20,6 +20,5 @@ returns c =
     let modules = map module_of built.modules.items in
     let wanted = found_unless (first_fault modules) (all_warnings (joined modules)) in
     let given = c.in_ok-warnings.warnings.items in
-    let counted : length given ≡ warning_count built = same_length (IsGivenAs (built_sources c.args.files.now built)) wanted given c.in_ok-warnings.ensures in
-    let all : c.loop-warning.warning-index ≡ length given = omega (arith, c.loop-warning.auto.warning-index-end, c.loop-warning-test.false, ap length c.deref-warning-items.ensures.value) in
-    c.loop-warning.invariant ∙ all ∙ counted
+    let counted : length given ≡ warning_count built = same_length (IsGivenAs (built_sources c.args.sources.now.front c.args.sources.now.files.now built)) wanted given c.in_ok-warnings.ensures in
+    omega (arith, c.in_ok-reports.ensures, ap length c.deref.ensures.value, counted)

@@ -1,0 +1,91 @@
+//! A source, read once for the messages about all its errors.
+
+use crate::lines::tokens_of;
+use asm_line::{Head, form_of};
+use asm_macro::source_part;
+use asm_text::Lines;
+use bstr::ByteSlice;
+use common::NameKey;
+use indexmap::IndexMap;
+use std::alloc::{AllocError, Global};
+
+/// How many lines come before those of a source itself.
+#[derive(Clone, Copy)]
+pub struct Before {
+    /// Those of the words after `--define`, which come first.
+    pub defines: u32,
+    /// Those, and the lines of shared files.
+    pub lines: u32,
+}
+
+/// The lines of a source, and the macros that they define.
+#[derive(Drop)]
+pub struct SourceLines<'a> {
+    lines: Lines<'a>,
+    pub(crate) before: Before,
+    /// The first line that defines each macro, by the macro's name in upper case.
+    macros: IndexMap<Vec<u8>, u32, NameKey>,
+}
+
+/// Whether a line may define a macro. Most lines need not be cut into tokens to tell that they do not.
+fn may_define(line: &[u8]) -> bool {
+    line.contains_str(b"ACRO") || line.contains_str(b"acro")
+}
+
+/// The macro that a line defines, in upper case.
+fn macro_in(alloc: Global, line: &[u8]) -> Result<Option<Vec<u8>>, AllocError> {
+    if !may_define(line) {
+        return Ok(None);
+    }
+    let found = tokens_of(alloc, line)?;
+    match form_of(&found).head {
+        Head::Macro(name) => Ok(Some(name.to_ascii_uppercase(alloc)?)),
+        _ => Ok(None),
+    }
+}
+
+impl<'a> SourceLines<'a> {
+    /// Reads a source, which begins with the lines that come before those of the source itself.
+    ///
+    /// # Errors
+    ///
+    /// `AllocError` if memory ran out.
+    pub fn of(
+        alloc: Global,
+        text: &'a [u8],
+        before: Before,
+    ) -> Result<SourceLines<'a>, AllocError> {
+        let lines = Lines::of(alloc, source_part(text))?;
+        let mut macros = IndexMap::with_hasher(alloc, NameKey::of(text));
+        let mut number = 0u32;
+        for at in 0..lines.len() {
+            number = number.saturating_add(1);
+            if let Some(name) = macro_in(alloc, lines.line(at))? {
+                if macros.get(name.as_slice()).is_none() {
+                    macros.insert(name, number)?;
+                }
+            }
+        }
+        Ok(SourceLines {
+            lines,
+            before,
+            macros,
+        })
+    }
+
+    /// How many lines there are.
+    pub fn len(&self) -> usize {
+        self.lines.len()
+    }
+
+    /// The line with this number, counted from 1, without its line end; an empty one if there is none.
+    pub fn line(&self, number: u32) -> &'a [u8] {
+        self.lines.line((number as usize).saturating_sub(1))
+    }
+
+    /// The first line that defines the macro with this name, in upper or lower case.
+    pub(crate) fn macro_line(&self, alloc: Global, name: &[u8]) -> Result<Option<u32>, AllocError> {
+        let upper = name.to_ascii_uppercase(alloc)?;
+        Ok(self.macros.get(upper.as_slice()).copied())
+    }
+}

@@ -1,0 +1,14 @@
+pub mod Adding_up
+pub mod Placing
+pub mod All_sources
+pub mod By_line
+pub mod Summing
+pub mod Wholly
+pub mod Told
+pub mod Long_jumps
+pub mod Ordered
+pub mod Parting
+pub mod Counting
+pub mod Figuring
+pub mod Order
+pub mod ByAddress

@@ -1,0 +1,11 @@
+pub mod Printed
+pub mod Named
+pub mod Kinds
+pub mod Figures
+pub mod Mapped
+pub mod Map
+pub mod Sums
+pub mod Programs
+pub mod Text
+pub mod SymbolFile
+pub mod Private

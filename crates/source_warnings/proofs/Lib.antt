@@ -1,0 +1,5 @@
+mod Agreeing
+mod Steps
+mod Lined
+mod Called
+mod Printed

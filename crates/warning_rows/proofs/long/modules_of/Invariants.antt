@@ -1,0 +1,7 @@
+use Rattle.std.specs.Prelude.{All}
+use Rattle.zmo_module.specs.Modules.{module_of}
+use Rattle.zmo_module.specs.Rules.{IsModule}
+use Rattle.warning_rows.proofs.long.modules_of.Given as goal
+
+abbrev pub invariant-loop-source : goal.invariant-loop-source
+invariant-loop-source l = All (λ m. IsModule (module_of m)) l.modules.items

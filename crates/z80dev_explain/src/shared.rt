@@ -1,0 +1,67 @@
+//! Reports the errors of shared files.
+
+ghost use Rattle.std.specs.Prelude.{◌<◌, OnOk, length};
+
+use crate::report::{Report, Severity};
+use crate::sources::Sources;
+use asm_module::{SourceLine, read_source};
+use error_messages::Note;
+use std::alloc::{AllocError, Global};
+use z80dev_make::{Told, is_shared};
+
+/// Answers the report of a line that a shared file may not have.
+fn unshared<'f>(
+    alloc: Global,
+    sources: &Sources<'_, 'f>,
+    line: u32,
+) -> Result<Report<'f>, AllocError> {
+    let mut notes = Vec::new(alloc);
+    notes.push(Note::Help(String::from_str(
+        alloc,
+        "it may have EQU and EXTRN lines, macros, and IF and REPT around these; the rest goes into a source",
+    )?))?;
+    Ok(Report {
+        severity: Severity::Error,
+        at: Some(sources.named(alloc, 0, line, b"")?),
+        text: String::from_str(alloc, "a shared file may not have this line")?,
+        name: String::from_str(alloc, "NotShared")?,
+        notes,
+    })
+}
+
+/// Appends the reports of all lines of shared files that these may not have.
+pub(crate) fn put_unshared<'f>(
+    alloc: Global,
+    sources: &Sources<'_, 'f>,
+    reports: &mut Vec<Report<'f>>,
+) -> Result<(), AllocError> {
+    let words = sources.front.defines.len();
+    let lines: Vec<SourceLine> = match read_source(alloc, sources.text(0)) {
+        Ok(read) => read.lines,
+        Err(_) => return Ok(()),
+    };
+    for line in &lines {
+        if words < line.number as usize && !is_shared(&line.line) {
+            reports.push(unshared(alloc, sources, line.number)?)?;
+        }
+    }
+    Ok(())
+}
+
+/// Appends the report of the first error of a front, about which nothing else is known.
+pub(crate) fn put_told<'f>(
+    alloc: Global,
+    told: Told<'f>,
+    reports: &mut Vec<Report<'f>>,
+) -> Result<(), AllocError>
+    ensures { OnOk result (0 < length reports.new.items) }
+{
+    reports.push(Report {
+        severity: Severity::Error,
+        at: None,
+        text: String::from_str(alloc, "the shared files have an error")?,
+        name: format!(in alloc; "{told}")?,
+        notes: Vec::new(alloc),
+    })?;
+    Ok(())
+}
