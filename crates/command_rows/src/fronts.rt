@@ -3,7 +3,7 @@
 use crate::making::{Sources, lent, show_made, sources_of};
 use row_text::Row;
 use std::alloc::{AllocError, Global};
-use z80dev::{Front, SourceFile, Wanted, bad_define, build};
+use z80dev::{Front, Products, SourceFile, Wanted, bad_define, build};
 
 /// Takes a part of a row as words with commas between them; `-` is no word.
 fn words_of<'a>(alloc: Global, part: &'a str) -> Result<Vec<&'a str>, AllocError> {
@@ -51,7 +51,11 @@ fn show_behind<'a>(
     let front = Front { defines, files };
     let wanted = Wanted {
         grow: true,
-        list,
+        products: Products {
+            list,
+            map: false,
+            symbols: None,
+        },
         warn: false,
     };
     let made = build(row.alloc(), front, sources, wanted);

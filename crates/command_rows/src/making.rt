@@ -3,7 +3,8 @@
 use row_text::Row;
 use std::alloc::{AllocError, Global};
 use z80dev::{
-    Answer, Front, Made, MemorySink, SourceFile, Told, Wanted, asm, build, finish, link, report,
+    Answer, Front, Made, MemorySink, Products, SourceFile, Told, Wanted, asm, build, finish, link,
+    report,
 };
 use z80dev_jobs::{FailingFiles, Failure, MemoryFiles};
 
@@ -11,6 +12,13 @@ use z80dev_jobs::{FailingFiles, Failure, MemoryFiles};
 const NO_FRONT: Front<'static> = Front {
     defines: &[],
     files: &[],
+};
+
+/// Nothing but the program, its sizes file and its certificate.
+const NOTHING_MORE: Products = Products {
+    list: false,
+    map: false,
+    symbols: None,
 };
 
 /// How `finish` ended: the status, what it printed and reported, and the files.
@@ -104,7 +112,7 @@ pub(crate) fn answer_link(row: &mut Row) {
     let Ok(objects) = objects_of(row) else {
         return row.refuse("no memory");
     };
-    let answer = link(row.alloc(), &objects);
+    let answer = link(row.alloc(), &objects, NOTHING_MORE);
     let ended = finished(row.alloc(), &answer, 9);
     show_finished(row, &ended)
 }
@@ -156,7 +164,7 @@ pub(crate) fn show_made(row: &mut Row, made: Made, room: u64) {
 fn show_built(row: &mut Row, sources: &[SourceFile], grow: bool, room: u64) {
     let wanted = Wanted {
         grow,
-        list: false,
+        products: NOTHING_MORE,
         warn: false,
     };
     let made = build(row.alloc(), NO_FRONT, sources, wanted);

@@ -50,6 +50,7 @@ fn run(row: &mut Row, job: Job) {
         input: Bytes::new(&typed),
         output: WatchedSink::new(room),
         errors: MemorySink::new(row.alloc()),
+        is_terminal: false,
     };
     let Ended { status, host } = command(row.alloc(), &words, host);
     let Host {

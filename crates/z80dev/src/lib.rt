@@ -21,5 +21,6 @@ pub use z80dev_finish::{
     Answer, DONE, End, FILE_FAULT, Files, Kind, NewFile, REFUSED, USAGE, Unread, finish, report,
 };
 pub use z80dev_make::{
-    Front, Jumps, Made, Object, Refusal, SourceFile, Told, Wanted, asm, bad_define, build, link,
+    Front, Jumps, Made, Object, Products, Refusal, SourceFile, SymbolForm, Told, Wanted, asm,
+    bad_define, build, link, program_kinds,
 };

@@ -7,7 +7,7 @@ mod words;
 use files::HostFiles;
 use std::alloc::AllocError;
 use std::fs::{self, File};
-use std::io::{self, LineWriter};
+use std::io::{self, IsTerminal, LineWriter};
 use std::os::fd::AsRawFd;
 use std::process::ExitCode;
 use words::words_of;
@@ -22,7 +22,9 @@ const LAST_STREAM: i32 = 2;
 /// Runs the command on the files and streams of the system. Its output is written a line at a time.
 fn run(rt: &HostRuntime) -> Result<u8, AllocError> {
     let words = words_of(rt)?;
-    let Ok(output) = LineWriter::new(rt.alloc(), rt.stdout()) else {
+    let stdout = rt.stdout();
+    let is_terminal = stdout.is_terminal();
+    let Ok(output) = LineWriter::new(rt.alloc(), stdout) else {
         return Err(AllocError);
     };
     let host = Host {
@@ -30,6 +32,7 @@ fn run(rt: &HostRuntime) -> Result<u8, AllocError> {
         input: Watched::new(rt.stdin()),
         output: WatchedSink::new(output),
         errors: WatchedSink::new(rt.stderr()),
+        is_terminal,
     };
     Ok(command(rt.alloc(), &words, host).status)
 }

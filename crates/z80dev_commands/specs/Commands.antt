@@ -16,7 +16,7 @@ use Rattle.z80dev_commands.specs.declared.job.Attribute.TheVariants.{ReadOnly, S
 use Rattle.z80dev_commands.specs.declared.job.DiskJob.{DiskJob}
 use Rattle.z80dev_commands.specs.declared.job.DiskJob.TheVariants as on
 use Rattle.z80dev_commands.specs.declared.job.Job.{Job}
-use Rattle.z80dev_commands.specs.declared.job.Job.TheVariants.{Pipe, Asm, Link, Build, Explain, Check, Dis, Disk, Run, Debug}
+use Rattle.z80dev_commands.specs.declared.job.Job.TheVariants.{Pipe, Asm, Link, Build, Explain, Check, Dis, Disk, Run, Debug, Play}
 use Rattle.z80dev_commands.specs.declared.job.Manner.{Manner}
 use Rattle.z80dev_commands.specs.declared.job.Shared.{Shared}
 use Rattle.z80dev_commands.specs.declared.job.Target.{Target}
@@ -71,6 +71,14 @@ define_rule = list_rule (codes "define") (codes "NAME=VALUE")
 abbrev pub with_file_rule : Rule
 with_file_rule = list_rule (codes "with") (codes "FILE")
 
+-- `--symbols FORM`
+abbrev pub symbols_rule : Rule
+symbols_rule = option_rule (codes "symbols") (codes "FORM")
+
+-- `--color WHEN`
+abbrev pub color_rule : Rule
+color_rule = option_rule (codes "color") (codes "WHEN")
+
 -- `--NAME ID` with a number from 0 to `most` as its value
 abbrev pub number_rule : Text → Text → ℕ → Rule
 number_rule name id most = record (option_rule name id) { parser = Some (Unsigned 0 most) }
@@ -109,18 +117,20 @@ with_rules name rules = record (new_shape name) { rules = rules }
 abbrev pub asm_shape : Shape
 asm_shape = with_rules (codes "asm") (out_rule ∷ flag_rule (codes "grow") ∷ flag_rule (codes "no-warn") ∷ define_rule ∷ with_file_rule ∷ path_rule (codes "SRC") ∷ [])
 
--- `link --out BASE OBJ..`
+-- `link --out BASE [--map] [--symbols FORM] OBJ..`
 abbrev pub link_shape : Shape
-link_shape = with_rules (codes "link") (out_rule ∷ paths_rule (codes "OBJ") ∷ [])
+link_shape = with_rules (codes "link") (out_rule ∷ flag_rule (codes "map") ∷ symbols_rule ∷ paths_rule (codes "OBJ") ∷ [])
 
--- `build [--out BASE] [--grow] [--list] [--verbose] [--no-warn] [--define NAME=VALUE].. [--with FILE].. SRC..`
+-- `build [--out BASE] [--grow] [--list] [--map] [--symbols FORM] [--verbose] [--no-warn] [--define NAME=VALUE].. [--with FILE].. SRC..`
 abbrev pub build_shape : Shape
 build_shape = with_rules (codes "build")
-    (base_rule ∷ flag_rule (codes "grow") ∷ flag_rule (codes "list") ∷ verbose_rule ∷ flag_rule (codes "no-warn") ∷ define_rule ∷ with_file_rule ∷ paths_rule (codes "SRC") ∷ [])
+    (base_rule ∷ flag_rule (codes "grow") ∷ flag_rule (codes "list") ∷ flag_rule (codes "map") ∷ symbols_rule ∷ verbose_rule ∷ flag_rule (codes "no-warn")
+    ∷ define_rule ∷ with_file_rule ∷ paths_rule (codes "SRC") ∷ [])
 
--- `explain [--grow] SRC..`
+-- `explain [--grow] [--jumps] [--json] [--color WHEN] [--define NAME=VALUE].. [--with FILE].. SRC..`
 abbrev pub explain_shape : Shape
-explain_shape = with_rules (codes "explain") (flag_rule (codes "grow") ∷ paths_rule (codes "SRC") ∷ [])
+explain_shape = with_rules (codes "explain")
+    (flag_rule (codes "grow") ∷ flag_rule (codes "jumps") ∷ flag_rule (codes "json") ∷ color_rule ∷ define_rule ∷ with_file_rule ∷ paths_rule (codes "SRC") ∷ [])
 
 -- `check SIZES CERT`
 abbrev pub check_shape : Shape
@@ -179,6 +189,11 @@ abbrev pub debug_shape : Shape
 debug_shape = with_rules (codes "debug") (option_rule (codes "disk") (codes "IMG") ∷ option_rule (codes "input") (codes "FILE") ∷ labels_rule
     ∷ option_rule (codes "list") (codes "LST") ∷ path_rule (codes "COM") ∷ words_rule (codes "WORD") ∷ [])
 
+-- `play [--disk IMG] [--no-lock] [--steps N] [--raw] [--terminal CODES] [--record FILE] COM [WORD..]`
+abbrev pub play_shape : Shape
+play_shape = with_rules (codes "play") (option_rule (codes "disk") (codes "IMG") ∷ flag_rule (codes "no-lock") ∷ steps_rule ∷ flag_rule (codes "raw")
+    ∷ option_rule (codes "terminal") (codes "CODES") ∷ option_rule (codes "record") (codes "FILE") ∷ path_rule (codes "COM") ∷ words_rule (codes "WORD") ∷ [])
+
 -- the command `z80dev` without its commands: its help and its version
 abbrev pub bare : App
 bare = record { top = record (new_shape (codes "z80dev")) { disable_help_subcommand = true; has_version = true }; subs = [] }
@@ -191,10 +206,10 @@ programs = with_subcommand (with_subcommand (with_subcommand (with_subcommand (w
 abbrev pub with_files : App
 with_files = with_subcommand (with_subcommand (with_subcommand (with_subcommand (with_subcommand programs dir_shape) put_shape) get_shape) erase_shape) rename_shape
 
--- with the other commands on disks, and with `run` and `debug`
+-- with the other commands on disks, and with `run`, `debug` and `play`
 abbrev pub z80dev : App
-z80dev = with_subcommand (with_subcommand (with_subcommand (with_subcommand (with_subcommand (with_subcommand with_files (protect_shape (codes "protect"))) (protect_shape (codes "unprotect")))
-    check_disk_shape) blank_shape) run_shape) debug_shape
+z80dev = with_subcommand (with_subcommand (with_subcommand (with_subcommand (with_subcommand (with_subcommand (with_subcommand with_files (protect_shape (codes "protect"))) (protect_shape (codes "unprotect")))
+    check_disk_shape) blank_shape) run_shape) debug_shape) play_shape
 
 -- ---- jobs
 
@@ -318,11 +333,15 @@ abbrev pub IsJobOf : Option (Text × List Row) → Job → Type 0
 IsJobOf met Pipe = met ≡ None
 IsJobOf met (Asm asm) = Meets met (codes "asm") (λ rows. HasValue (codes "BASE") asm.out rows
     × (is_on (codes "grow") rows ≡ asm.grow) × (is_on (codes "no-warn") rows ≡ not asm.warn) × FindsShared asm.shared rows × HasValue (codes "SRC") asm.source rows)
-IsJobOf met (Link link) = Meets met (codes "link") (λ rows. HasValue (codes "BASE") link.out rows × FindsAll (codes "OBJ") link.objects.items rows)
+IsJobOf met (Link link) = Meets met (codes "link") (λ rows. HasValue (codes "BASE") link.out rows
+    × (is_on (codes "map") rows ≡ link.map) × FindsIfGiven (codes "FORM") link.symbols rows × FindsAll (codes "OBJ") link.objects.items rows)
 IsJobOf met (Build build) = Meets met (codes "build") (λ rows. FindsIfGiven (codes "BASE") build.out rows
-    × (is_on (codes "grow") rows ≡ build.grow) × (is_on (codes "list") rows ≡ build.list) × (is_on (codes "verbose") rows ≡ build.verbose)
+    × (is_on (codes "grow") rows ≡ build.grow) × (is_on (codes "list") rows ≡ build.list)
+    × (is_on (codes "map") rows ≡ build.map) × FindsIfGiven (codes "FORM") build.symbols rows × (is_on (codes "verbose") rows ≡ build.verbose)
     × (is_on (codes "no-warn") rows ≡ not build.warn) × FindsShared build.shared rows × FindsAll (codes "SRC") build.sources.items rows)
-IsJobOf met (Explain explain) = Meets met (codes "explain") (λ rows. (is_on (codes "grow") rows ≡ explain.grow) × FindsAll (codes "SRC") explain.sources.items rows)
+IsJobOf met (Explain explain) = Meets met (codes "explain") (λ rows. (is_on (codes "grow") rows ≡ explain.grow)
+    × (is_on (codes "jumps") rows ≡ explain.jumps) × (is_on (codes "json") rows ≡ explain.json) × FindsIfGiven (codes "WHEN") explain.color rows
+    × FindsShared explain.shared rows × FindsAll (codes "SRC") explain.sources.items rows)
 IsJobOf met (Check check) = Meets met (codes "check") (λ rows. HasValue (codes "SIZES") check.sizes rows × HasValue (codes "CERT") check.cert rows)
 IsJobOf met (Dis dis) = Meets met (codes "dis") (λ rows. FindsIfGiven (codes "SYM") dis.labels rows
     × FindsAny (codes "ADDR") dis.entries.items rows × HasValue (codes "COM") dis.program rows)
@@ -332,6 +351,9 @@ IsJobOf met (Run run) = Meets met (codes "run") (λ rows. FindsIfGiven (codes "I
 IsJobOf met (Debug debugging) = Meets met (codes "debug") (λ rows. FindsIfGiven (codes "IMG") debugging.disk rows
     × FindsIfGiven (codes "FILE") debugging.input rows × FindsIfGiven (codes "SYM") debugging.labels rows × FindsIfGiven (codes "LST") debugging.list rows
     × HasValue (codes "COM") debugging.program rows × FindsAny (codes "WORD") debugging.words.items rows)
+IsJobOf met (Play play) = Meets met (codes "play") (λ rows. FindsIfGiven (codes "IMG") play.disk rows × FindsLock play.lock rows
+    × FindsNumber (codes "N") play.steps rows × (is_on (codes "raw") rows ≡ play.raw) × FindsIfGiven (codes "CODES") play.terminal rows
+    × FindsIfGiven (codes "FILE") play.record rows × HasValue (codes "COM") play.program rows × FindsAny (codes "WORD") play.words.items rows)
 
 -- The words are parsed without an error, and the job is that of the command that they name, with the values that the parse found.
 abbrev pub IsJob : List Text → Job → Type 0

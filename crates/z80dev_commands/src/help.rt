@@ -12,7 +12,8 @@ Example: z80dev build -o game main.asm print.asm
 writes game.com, which `z80dev run game.com` runs.
 
 Example: z80dev explain main.asm print.asm
-prints every error of these sources, and what to write instead.
+prints every error that it can know of these sources, and often what to write
+instead.
 
 `z80dev COMMAND --help` explains what a command reads, writes and prints.
 docs/GUIDE.md in the sources takes you through a whole program.";
@@ -35,6 +36,9 @@ choice fits, it writes BASE.siz and BASE.crt only, and the certificate shows
 why. Prints nothing. If an OBJ has the path of one of these files, nothing is
 written, and there is a line `error: Overwrites(PATH)`.
 
+`z80dev build --help` explains --map and --symbols. An object file does not tell
+code from data, so the map has one number for both.
+
 Example: z80dev link -o game main.zmo print.zmo
 writes game.siz, game.crt and game.com.";
 
@@ -49,6 +53,12 @@ for each JR that became a JP.
 Without --out, BASE is the path of the first SRC without its ending: src/game
 for src/game.asm. With --list, it also writes BASE.lst and BASE.sym.
 
+With --map, it also writes BASE.map, for people: the addresses of each module,
+its bytes of code, data and space, its public names, the jumps that are short
+and long, and how much room is left. With --symbols zsid, BASE.sym is a file for
+the debuggers ZSID and SID; with --symbols ucsim, it writes BASE.ucsim for the
+simulator of SDCC.
+
 --define and --with may be given several times. Each source is assembled as if
 a line `NAME EQU VALUE` for each definition and then all lines of each FILE
 stood before its own first line. A FILE is for EQU lines, macros, conditions
@@ -60,13 +70,14 @@ A file that it writes replaces one of the same name without a warning, even one
 that is write-protected. But if a SRC or a FILE has the path of one of them,
 nothing is written, and there is a line `error: Overwrites(PATH)`.
 
-A line such as `warning: game.asm(12): ..` tells of code that relies on the length
-of a jump that may be short or long. The files are written all the same, and the
-status is 0. --no-warn leaves these lines out.
+A line such as `warning: game.asm(12): ..` tells of code that relies on the
+length of a jump that may be short or long. The files are written all the same,
+and the status is 0. --no-warn leaves these lines out.
 
 A line such as `error: game.asm(12): Undefined` names the first error, and the
-status is 1. `z80dev explain` prints every error, with its line and what to write
-instead.
+status is 1. `z80dev explain` prints every error that it can know, with its line
+and often what to write instead. It also says which line it is if the error has
+none here, as `error: Range(5)`.
 
 Example: z80dev build --list -o game main.asm print.asm
 writes game.siz, game.crt, game.com, game.lst and game.sym.
@@ -75,8 +86,8 @@ Example: z80dev build --define DEBUG=1 --with screen.inc main.asm
 defines DEBUG in main.asm, which may use the macros of screen.inc.";
 
 pub(crate) const EXPLAIN: &str =
-    r"Reads each SRC as `z80dev build` does, and prints every error with its place,
-what is wrong, and what to write instead:
+    r"Reads each SRC as `z80dev build` does, and prints every error that it can know:
+its place, what is wrong, and often what to write instead.
 
 main.asm:2:8: error: `LOP` is not defined [Undefined]
   2 |  JP NZ,LOP
@@ -85,11 +96,22 @@ main.asm:2:8: error: `LOP` is not defined [Undefined]
 
 The place is the path, the line and the column, which counts bytes from 1. The
 name in brackets is the one that `z80dev build` prints. If there is no error,
-explain prints the warnings about jumps. It prints at most 100 errors or
-warnings, and then how many more there are. It writes no file.
+explain prints the warnings: about jumps, about labels and externals that are
+not used, and about macro calls with too many or too few arguments. It prints
+at most 100 errors or warnings, and then how many more there are. It writes no
+file. `z80dev build --help` explains --define and --with.
 
-There is no --define and no --with here: a name that only they define counts as
-undefined.
+Most errors in a macro have the line of the macro's body, as it is with the
+arguments of the call, and a note for each call that led there. Errors in its
+characters, numbers, strings, blocks and conditions, and of jumps that do not
+reach, have the line of the call. Some errors hide others, so run explain again
+when these are mended.
+
+With --jumps, it also prints a note for each jump that could be short but is
+long: how far its target is, how many bytes too many, and which other long jumps
+between them it needs. With --json, each message is one line, an object with
+path, line, column, severity, name, text and notes; docs/FORMATS.md describes
+it.
 
 The status is 0 if there is a program and no warning. Otherwise it is 1, and a
 line `error: 3 errors` or `error: 1 warning` on standard error has the number.
@@ -100,9 +122,9 @@ pub(crate) const CHECK: &str =
     r"Reads the sizes and the certificate that link and build write, and prints one
 line. `best N` means that some choice of short and long jumps fits and has N
 bytes, and that no choice that fits has fewer. The other two mean that no choice
-fits: `range K` because statement K, counted from 0, does not reach its label in
-any choice in which every jump that is made short reaches its own; `size N`
-because every such choice has at least N bytes, more than there is room for.
+fits: `range K` because statement K, counted from 0, is too far from its label
+in every choice in which the other jumps reach theirs; `size N` because each of
+these choices has at least N bytes, more than there is room for.
 Writes nothing.
 
 Example: z80dev check game.siz game.crt
@@ -118,7 +140,8 @@ computes or reads from a table, give that address with --entry, which may be
 given several times. ADDR is a number as in a source, such as 0150H or 336.
 
 With --labels, the labels have the names of SYM, which `z80dev build --list`
-writes. Without, a label is L and its address, such as L0150.
+writes, except those that two modules have. Without a name, a label is L and its
+address, such as L0150.
 
 Example: z80dev dis game.com >again.asm
 writes again.asm.
@@ -132,9 +155,9 @@ records of 128 bytes, then RO if it is read-only and SYS if it is a system file.
 With --long, also prints its bytes, directory entries and blocks, and at the end
 what is free. Writes nothing.
 
-With NAME, which is in upper case, prints only the files that match: ? stands
-for any character, and for none at the end of the name or of the type; * stands
-for the rest of either. That no file matches is an error.
+With NAME, which is in upper case, prints only the files that match: ? matches
+any one character, and at the end of the name or of the type also none; * at the
+end of either matches the rest of it. That no file matches is an error.
 
 Example: z80dev dir a.img
 prints lines such as 0 GAME.COM 3.
@@ -164,9 +187,9 @@ With --no-lock, nothing waits, and of two commands that change IMG at the same
 time one may undo what the other did. The error is the same if IMG is missing,
 is write-protected or is a symbolic link to nothing.
 
-If its bytes stay the same, IMG is not written. If IMG is write-protected, it is not
-replaced. It keeps its permissions, and its owner if the system allows it. If
-IMG is a symbolic link, the link stays and the file that it points to is
+If its bytes stay the same, IMG is not written. If IMG is write-protected, it is
+not replaced. It keeps its permissions, and its owner if the system allows it.
+If IMG is a symbolic link, the link stays and the file that it points to is
 replaced. Other hard links keep the old contents.
 
 Example: z80dev put a.img game.com GAME.COM
@@ -183,10 +206,9 @@ pub(crate) const GET: &str =
 bytes. NAME is in upper case, as GAME.COM. If FILE exists, it is replaced
 without a warning. Prints nothing, and leaves IMG as it is.
 
-In NAME, ? stands for any character, and * for the rest of the name or of the
-type. Each file that matches is then written into the folder FILE under its own
-name. With --all, every file of the user is written into FOLDER. The folder has
-to be there.
+NAME may have ? and * in it, as `z80dev dir --help` explains. Each file that
+matches is then written into the folder FILE under its own name. With --all,
+every file of the user is written into FOLDER. The folder has to be there.
 
 With --text, a file ends at its first 1AH, and each CR LF becomes LF.
 
@@ -197,9 +219,9 @@ writes the files of type ASM into the folder sources.";
 
 pub(crate) const ERASE: &str =
     r"Reads IMG and writes it without the files NAME. Each NAME is in upper case, as
-GAME.COM; in it, ? stands for any character, and * for the rest of the name or
-of the type. If one of the files is read-only, nothing is erased, and there is a
-line such as `error: ReadOnly(GAME.COM)`. Prints nothing.
+GAME.COM; it may have ? and * in it, as `z80dev dir --help` explains. If one of
+the files is read-only, nothing is erased, and there is a line such as
+`error: ReadOnly(GAME.COM)`. Prints nothing.
 
 IMG is locked and replaced as `z80dev put --help` explains.
 
@@ -215,9 +237,8 @@ Example: z80dev rename a.img GAME.COM CHESS.COM";
 
 pub(crate) const PROTECT: &str =
     r"Reads IMG and writes it with the files NAME made read-only, or with --system
-marked as system files. Each NAME is in upper case, as GAME.COM; in it, ? stands
-for any character, and * for the rest of the name or of the type. Prints
-nothing.
+marked as system files. Each NAME is in upper case, as GAME.COM; it may have ?
+and * in it, as `z80dev dir --help` explains. Prints nothing.
 
 IMG is locked and replaced as `z80dev put --help` explains.
 
@@ -225,9 +246,8 @@ Example: z80dev protect a.img '*.COM'";
 
 pub(crate) const UNPROTECT: &str =
     r"Reads IMG and writes it with the files NAME made writable, or with --system no
-longer marked as system files. Each NAME is in upper case, as GAME.COM; in it, ?
-stands for any character, and * for the rest of the name or of the type. Prints
-nothing.
+longer marked as system files. Each NAME is in upper case, as GAME.COM; it may
+have ? and * in it, as `z80dev dir --help` explains. Prints nothing.
 
 IMG is locked and replaced as `z80dev put --help` explains.
 
@@ -263,9 +283,9 @@ ends the session.
 
 Nothing is written: what the program writes to its disk is gone at the end. What
 it prints is shown after `| `. What it gets as typed comes from FILE, with each
-line end as one CR. With --labels, an address may be given as a label of SYM, and
-is printed with the label before it. With --list, where also shows the line of
-LST. Both are files that `z80dev build --list` writes.
+line end as one CR. With --labels, an address may be given as a label of SYM,
+and is printed with the label before it. With --list, where also shows the line
+of LST. Both are files that `z80dev build --list` writes.
 
 The status is 0 at the end of the commands, and 1 with a line `error: ..` if the
 program is too long, its words are, IMG is not an image of a disk, or SYM is not
@@ -273,6 +293,31 @@ a file of labels.
 
 Example: z80dev debug --labels game.sym game.com
 waits for a command, such as step, regs, back, help or quit.";
+
+pub(crate) const PLAY: &str =
+    r"Reads IMG and COM and runs the program, which gets each byte of standard input
+as it comes. What the program prints is shown at once. Start it at a terminal by
+the script z80dev-play, with the same words: the script puts the terminal into
+the mode in which each key comes as it is pressed (--raw), and puts it back at
+the end. Without the script, input comes by lines.
+
+At a terminal, press Ctrl-\ twice to leave. Ctrl-C is the program's own.
+
+A call that takes a byte or a line waits for it; function 10 shows the line as
+it is typed. A call that asks whether a byte is there is answered by what has
+come. An LF that comes is a CR. The screen codes of the Kaypro, the Osborne and
+the ADM-3A (adm3a) or of the VT52 (vt52) become those of today's terminals; with
+none, bytes are shown as they are.
+
+Writes IMG at the end as `z80dev run` does, also if you leave. With --record, it
+writes FILE, a line for each byte that came: the number of steps before it, and
+the byte in hexadecimal.
+
+The status is that of run: 0 if the program finished or you left, and 1 with a
+line `stopped: WHY at PC` if it was stopped.
+
+Example: z80dev-play --disk game.img game.com
+runs game.com at the keyboard.";
 
 pub(crate) const RUN: &str =
     r"Reads IMG, COM and all of standard input, which is what the program gets as its
@@ -292,13 +337,16 @@ IMG is locked from before it is read until the end of the run, and replaced as
 --no-lock, what another command writes to IMG during the run may be lost.
 
 --regs prints the registers and the stack on standard error when the run has
-ended. If it is stopped, --last prints its last COUNT steps there, each as a line
-of the trace. --trace writes such a line for each step to TRC: its number, the
-address, the label, the instruction's bytes and text, and the registers that it
-changed. --profile writes to PRF how often the instruction at each address ran,
-most often first; with --list, it writes the lines of LST instead, each after how
-often its instruction ran. With --labels, each address has the label of SYM
-before it and how many bytes after it.
+ended. --last prints its last COUNT steps there, each as a line of the trace, if
+it is stopped, or comes to its end from outside the program's bytes. (A program
+whose last instruction is JP 5 counts as such a one, and is right.)
+
+--trace writes such a line for each of the first 1,000,000 steps to TRC: its
+number, the address, the label, the instruction's bytes and text, and the
+registers that it changed. --profile writes to PRF how often the instruction at
+each address ran, most often first; with --list, it writes the lines of LST
+instead, each after how often its instruction ran. With --labels, each address
+has the label of SYM before it and how many bytes after it.
 
 The status is 0 if the program ends by itself, and 1 if something stops it or it
 is too long to be loaded; then standard error has a line `stopped: WHY at PPPP`.

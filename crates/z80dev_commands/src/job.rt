@@ -28,6 +28,10 @@ pub struct Asm<'a> {
 pub struct Link<'a> {
     /// The path of the files to write, without their endings.
     pub out: &'a str,
+    /// Whether a map of the program is written.
+    pub map: bool,
+    /// The form of the file of symbols, if one is to be written.
+    pub symbols: Option<&'a str>,
     /// The paths of the object files, in the order of the words.
     pub objects: Vec<&'a str>,
 }
@@ -41,6 +45,10 @@ pub struct Build<'a> {
     pub grow: bool,
     /// Whether a listing and the symbols are written.
     pub list: bool,
+    /// Whether a map of the program is written.
+    pub map: bool,
+    /// The form of the file of symbols, if one is to be written for a debugger.
+    pub symbols: Option<&'a str>,
     /// Whether the command reports how many jumps are short.
     pub verbose: bool,
     /// Whether the command warns of code that relies on the length of a jump.
@@ -55,6 +63,13 @@ pub struct Build<'a> {
 pub struct Explain<'a> {
     /// Whether a written `JR` may become a `JP`.
     pub grow: bool,
+    /// Whether it says of each long jump why it is long.
+    pub jumps: bool,
+    /// Whether each message is an object of JSON.
+    pub json: bool,
+    /// When messages are in colour, if that is given.
+    pub color: Option<&'a str>,
+    pub shared: Shared<'a>,
     /// The paths of the sources in the order of the words, at least one.
     pub sources: Vec<&'a str>,
 }
@@ -277,6 +292,27 @@ pub struct Debugging<'a> {
     pub words: Vec<&'a str>,
 }
 
+/// `play`: runs a program for somebody at a keyboard.
+#[derive(Debug, Drop)]
+pub struct Play<'a> {
+    /// The path of the image of its disk, if one is given.
+    pub disk: Option<&'a str>,
+    /// Whether that image is locked.
+    pub lock: bool,
+    /// The most steps that the program may take. `None` for the caller's default.
+    pub steps: Option<u64>,
+    /// Whether each key comes as it is pressed, because the terminal was put into that mode.
+    pub raw: bool,
+    /// The codes of the terminal that the program was made for, if they are given.
+    pub terminal: Option<&'a str>,
+    /// The path of the file to write with each byte that came, if one is given.
+    pub record: Option<&'a str>,
+    /// The path of the .COM file.
+    pub program: &'a str,
+    /// The words of the program's command line.
+    pub words: Vec<&'a str>,
+}
+
 /// The job that the words ask for.
 #[derive(Debug, Drop)]
 pub enum Job<'a> {
@@ -291,4 +327,5 @@ pub enum Job<'a> {
     Disk(DiskJob<'a>),
     Run(Run<'a>),
     Debug(Debugging<'a>),
+    Play(Play<'a>),
 }

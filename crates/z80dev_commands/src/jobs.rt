@@ -7,7 +7,7 @@ ghost use Rattle.z80dev_commands.specs.Private.{AreFound, HasTarget, IsFlag, IsN
 
 use crate::job::{
     Asm, Attribute, Blank, Build, Check, Debugging, Dir, Dis, DiskJob, Erase, Explain, Get, GetAll,
-    Job, Link, Manner, Protect, Put, PutAll, Rename, Run, Shared, Target, Telling,
+    Job, Link, Manner, Play, Protect, Put, PutAll, Rename, Run, Shared, Target, Telling,
 };
 use crate::usage;
 use clap::error::ErrorKind;
@@ -176,6 +176,8 @@ fn link<'a>(alloc: Global, found: &ArgMatches<'a>) -> Result<Job<'a>, AllocError
 {
     Ok(Job::Link(Link {
         out: text(found, "BASE"),
+        map: flag(found, "map"),
+        symbols: text_if_given(found, "FORM"),
         objects: texts(alloc, found, "OBJ")?,
     }))
 }
@@ -188,6 +190,8 @@ fn build<'a>(alloc: Global, found: &ArgMatches<'a>) -> Result<Job<'a>, AllocErro
         out: text_if_given(found, "BASE"),
         grow: flag(found, "grow"),
         list: flag(found, "list"),
+        map: flag(found, "map"),
+        symbols: text_if_given(found, "FORM"),
         verbose: flag(found, "verbose"),
         warn: warn(found),
         shared: shared(alloc, found)?,
@@ -201,6 +205,10 @@ fn explain<'a>(alloc: Global, found: &ArgMatches<'a>) -> Result<Job<'a>, AllocEr
 {
     Ok(Job::Explain(Explain {
         grow: flag(found, "grow"),
+        jumps: flag(found, "jumps"),
+        json: flag(found, "json"),
+        color: text_if_given(found, "WHEN"),
+        shared: shared(alloc, found)?,
         sources: texts(alloc, found, "SRC")?,
     }))
 }
@@ -431,6 +439,22 @@ fn debug<'a>(alloc: Global, found: &ArgMatches<'a>) -> Result<Job<'a>, AllocErro
     }))
 }
 
+fn play<'a>(alloc: Global, found: &ArgMatches<'a>) -> Result<Job<'a>, AllocError>
+    requires { AreFound (codes "play") (rows_of (found_of found.now)) }
+    ensures { IfOk result (IsJobOf (Some (codes "play", rows_of (found_of found.now)))) }
+{
+    Ok(Job::Play(Play {
+        disk: text_if_given(found, "IMG"),
+        lock: lock(found),
+        steps: number(found, "N"),
+        raw: flag(found, "raw"),
+        terminal: text_if_given(found, "CODES"),
+        record: text_if_given(found, "FILE"),
+        program: text(found, "COM"),
+        words: texts_if_given(alloc, found, "WORD")?,
+    }))
+}
+
 /// The job of the command with this name.
 pub(crate) fn job<'a>(alloc: Global, name: &str, found: &ArgMatches<'a>) -> Result<Job<'a>, Error>
     requires { AreFound name.now (rows_of (found_of found.now)) }
@@ -454,6 +478,7 @@ pub(crate) fn job<'a>(alloc: Global, name: &str, found: &ArgMatches<'a>) -> Resu
         "blank" => Ok(blank(found)),
         "run" => Ok(run(alloc, found)?),
         "debug" => Ok(debug(alloc, found)?),
+        "play" => Ok(play(alloc, found)?),
         _ => unreachable!(),
     }
 }

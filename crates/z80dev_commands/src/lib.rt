@@ -14,7 +14,7 @@ ghost use Rattle.z80dev_commands.specs.Commands.{HasRightCount, IsJob, IsMiscoun
 use clap::Error;
 pub use job::{
     Asm, Attribute, Blank, Build, Check, Debugging, Dir, Dis, DiskJob, Erase, Explain, Get, GetAll,
-    Job, Link, Manner, Protect, Put, PutAll, Rename, Run, Shared, Target, Telling,
+    Job, Link, Manner, Play, Protect, Put, PutAll, Rename, Run, Shared, Target, Telling,
 };
 use std::alloc::Global;
 

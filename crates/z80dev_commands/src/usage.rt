@@ -5,14 +5,14 @@ mod arguments;
 ghost use Rattle.std.specs.Prelude.{◌≡◌, IfOk, Ok, false, codes};
 ghost use Rattle.clap.specs.Words.{AddsSubcommand, app_of, new_app};
 ghost use Rattle.clap.specs.declared.builder.command.Command.TheViews.{out-Command};
-ghost use Rattle.z80dev_commands.specs.Commands.{asm_shape, bare, blank_shape, build_shape, check_disk_shape, check_shape, debug_shape, dir_shape, dis_shape, erase_shape, explain_shape, get_shape, link_shape, programs, protect_shape, put_shape, rename_shape, run_shape, with_files, z80dev};
+ghost use Rattle.z80dev_commands.specs.Commands.{asm_shape, bare, blank_shape, build_shape, check_disk_shape, check_shape, debug_shape, dir_shape, dis_shape, erase_shape, explain_shape, get_shape, link_shape, play_shape, programs, protect_shape, put_shape, rename_shape, run_shape, with_files, z80dev};
 ghost use Rattle.z80dev_commands.specs.Private.{alone};
 
 use crate::help;
 use arguments::{
-    base, define, flag, grow, image, labels, list, name_if_given, names, no_lock, no_warn, option,
-    out_given, path, paths, steps, user, user_or_zero, verbose, with_file, with_target,
-    with_telling, words,
+    any_steps, base, color, define, flag, grow, image, json, jumps, labels, list, map,
+    name_if_given, names, no_lock, no_warn, option, out_given, path, paths, raw, steps, symbols,
+    user, user_or_zero, verbose, with_file, with_target, with_telling, words,
 };
 use clap::Command;
 use std::alloc::{AllocError, Global};
@@ -52,6 +52,8 @@ fn link<'a>(alloc: Global) -> Result<Command<'a>, AllocError>
 {
     titled(alloc, "link", "Links object files to a program", help::LINK)
         .arg(out_given(alloc))?
+        .arg(map(alloc))?
+        .arg(symbols(alloc))?
         .arg(paths(
             alloc,
             "OBJ",
@@ -76,6 +78,8 @@ fn build<'a>(alloc: Global) -> Result<Command<'a>, AllocError>
         "list",
         "Also writes the listing BASE.lst and the labels BASE.sym",
     ))?
+    .arg(map(alloc))?
+    .arg(symbols(alloc))?
     .arg(verbose(alloc))?
     .arg(no_warn(alloc))?
     .arg(define(alloc))?
@@ -94,10 +98,15 @@ fn explain<'a>(alloc: Global) -> Result<Command<'a>, AllocError>
     titled(
         alloc,
         "explain",
-        "Explains every error of source files, and what to write instead",
+        "Explains every error of source files, as far as it can know them",
         help::EXPLAIN,
     )
     .arg(grow(alloc))?
+    .arg(jumps(alloc))?
+    .arg(json(alloc))?
+    .arg(color(alloc))?
+    .arg(define(alloc))?
+    .arg(with_file(alloc))?
     .arg(paths(
         alloc,
         "SRC",
@@ -212,7 +221,7 @@ pub(crate) fn put<'a>(alloc: Global) -> Result<Command<'a>, AllocError>
         .arg(words(
             alloc,
             "NAME",
-            "The file's name on the disk, such as BIG.DAT; with --to, more files",
+            "In the first form the file's name on the disk, such as BIG.DAT; in the second more files",
         ))
 }
 
@@ -239,7 +248,7 @@ pub(crate) fn get<'a>(alloc: Global) -> Result<Command<'a>, AllocError>
     .arg(path(
         alloc,
         "NAME",
-        "The file's name on the disk, such as BIG.DAT; with --all, the folder to write into",
+        "In the first form the file's name on the disk, such as BIG.DAT; in the second the folder to write into",
     ))?
     .arg(words(alloc, "FILE", "The path of the file to write"))
 }
@@ -387,6 +396,41 @@ fn debug<'a>(alloc: Global) -> Result<Command<'a>, AllocError>
     .arg(words(alloc, "WORD", "The words of its command line"))
 }
 
+fn play<'a>(alloc: Global) -> Result<Command<'a>, AllocError>
+    ensures app { IfOk result (λ c. app_of c ≡ alone play_shape) }
+    ensures local { IfOk result (λ c. (out-Command c).has_globals ≡ false) }
+{
+    titled(
+        alloc,
+        "play",
+        "Runs a CP/M program for somebody at a keyboard",
+        help::PLAY,
+    )
+    .arg(option(
+        alloc,
+        "disk",
+        "IMG",
+        "The path of the image of drive A [default: a blank disk, which is not kept]",
+    ))?
+    .arg(no_lock(alloc))?
+    .arg(any_steps(alloc))?
+    .arg(raw(alloc))?
+    .arg(option(
+        alloc,
+        "terminal",
+        "CODES",
+        "Whose screen codes the program prints: adm3a, vt52 or none [default: adm3a]",
+    ))?
+    .arg(option(
+        alloc,
+        "record",
+        "FILE",
+        "Also writes each byte that came, with the number of steps before it",
+    ))?
+    .arg(path(alloc, "COM", "The path of the program"))?
+    .arg(words(alloc, "WORD", "The words of its command line"))
+}
+
 /// Adds a command to a command, unless memory ran out for one of them.
 fn with_command<'a>(
     command: Result<Command<'a>, AllocError>,
@@ -429,5 +473,6 @@ pub(crate) fn z80dev<'a>(alloc: Global) -> Result<Command<'a>, AllocError>
     let command = with_command(command, check_disk(alloc));
     let command = with_command(command, blank(alloc));
     let command = with_command(command, run(alloc));
-    with_command(command, debug(alloc))
+    let command = with_command(command, debug(alloc));
+    with_command(command, play(alloc))
 }

@@ -14,6 +14,8 @@ ending kind.Certificate = codes ".crt"
 ending kind.Com = codes ".com"
 ending kind.Listing = codes ".lst"
 ending kind.Symbols = codes ".sym"
+ending kind.Ucsim = codes ".ucsim"
+ending kind.Map = codes ".map"
 ending kind.Given = []
 
 -- files by their kinds, in the order in which they are written; the bytes for standard output; the text of a refusal, for standard error

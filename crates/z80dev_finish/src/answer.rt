@@ -20,6 +20,10 @@ pub enum Kind {
     Listing,
     /// The labels and their places.
     Symbols,
+    /// The labels as commands for the simulator ucsim.
+    Ucsim,
+    /// A map.
+    Map,
     /// A file whose whole path was given.
     Given,
 }
@@ -36,6 +40,8 @@ impl Kind {
             Kind::Com => ".com",
             Kind::Listing => ".lst",
             Kind::Symbols => ".sym",
+            Kind::Ucsim => ".ucsim",
+            Kind::Map => ".map",
             Kind::Given => "",
         }
     }

@@ -12,7 +12,8 @@ use Rattle.z80dev_finish.specs.declared.end.End.{End}
 use Rattle.z80dev_finish.specs.declared.end.End.TheVariants as end
 use Rattle.z80dev_jobs.specs.Making.{AreFiles, BuildsWith, Effect, NothingDone, UnlessRefused, WithAll, effect_of, shared_paths, source_paths}
 use Rattle.z80dev_jobs.specs.Outputs.{why_not_written}
-use Rattle.z80dev_make.specs.Answers.{program_kinds}
+use Rattle.z80dev_make.specs.Products.{program_kinds}
+use Rattle.z80dev_jobs.specs.Products.{build_products}
 use Rattle.z80dev_jobs.specs.Private.Steps.{BuildsTexts, EndsWithLines, IsClear}
 use Rattle.z80dev_jobs.specs.Reading.{IsRead}
 use Rattle.z80dev_make.specs.declared.answer.SourceFile.{SourceFile}
@@ -46,12 +47,12 @@ are_files a b s t made given same_paths same_texts same are =
 -- A program that was built of what was read is what `build` makes.
 pub builds : (base : List ℕ) (build : Build) (fronts texts : List (List ℕ)) (x : Effect)
     → AllZip (IsRead x.old) (shared_paths build.shared) fronts → AllZip (IsRead x.old) (source_paths build) texts
-    → why_not_written base (program_kinds build.list) (shared_paths build.shared ++ source_paths build) ≡ None → (lines : List ℕ) (e : End)
+    → why_not_written base (program_kinds (build_products build)) (shared_paths build.shared ++ source_paths build) ≡ None → (lines : List ℕ) (e : End)
     → BuildsTexts base build fronts texts x lines e → BuildsWith base build x lines e
 builds base build fronts texts x read_fronts read none lines e (inl is) =
-    clear (why_not_written base (program_kinds build.list) (shared_paths build.shared ++ source_paths build)) _ x e none (inl (fronts, read_fronts, inl (texts, read, is)))
+    clear (why_not_written base (program_kinds (build_products build)) (shared_paths build.shared ++ source_paths build)) _ x e none (inl (fronts, read_fronts, inl (texts, read, is)))
 builds base build fronts texts x read_fronts read none lines e (inr (out, nothing)) =
-    clear (why_not_written base (program_kinds build.list) (shared_paths build.shared ++ source_paths build)) _ x e none (lacking (shared_paths build.shared) _ x e out nothing)
+    clear (why_not_written base (program_kinds (build_products build)) (shared_paths build.shared ++ source_paths build)) _ x e none (lacking (shared_paths build.shared) _ x e out nothing)
 
 -- The same base, kinds and files, by other names.
 pub clear_of : (base given : List ℕ) (kinds meant : List Kind) (a b c d : List (Bor (List ℕ))) → base ≡ given → kinds ≡ meant → a ≡ b → c ≡ d

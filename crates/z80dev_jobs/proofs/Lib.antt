@@ -17,3 +17,4 @@ pub mod Refused
 pub mod Reported
 pub mod Stored
 pub mod Told
+mod Seated

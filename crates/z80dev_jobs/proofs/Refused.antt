@@ -9,7 +9,7 @@ use Rattle.z80dev_commands.specs.Commands.{HasRightCount, IsDiskJobOf, IsJob, Is
 use Rattle.z80dev_commands.specs.declared.job.DiskJob.{DiskJob}
 use Rattle.z80dev_commands.specs.declared.job.DiskJob.TheVariants as on
 use Rattle.z80dev_commands.specs.declared.job.Job.{Job}
-use Rattle.z80dev_commands.specs.declared.job.Job.TheVariants.{Pipe, Asm, Link, Build, Explain, Check, Dis, Disk, Run, Debug}
+use Rattle.z80dev_commands.specs.declared.job.Job.TheVariants.{Pipe, Asm, Link, Build, Explain, Check, Dis, Disk, Run, Debug, Play}
 use Rattle.z80dev_jobs.specs.Command.{AsksToShow, CommandEnds, IsUsageFault, Untouched}
 use Rattle.z80dev_jobs.specs.Private.Steps.{HasJobUser, HasUser, RefusesError}
 use Rattle.z80dev_jobs.specs.Words.{AreTexts}
@@ -73,3 +73,4 @@ has_user texts (Check check) is = tt
 has_user texts (Dis dis) is = tt
 has_user texts (Run run) is = tt
 has_user texts (Debug debugging) is = tt
+has_user texts (Play p) is = tt

@@ -10,18 +10,19 @@ use Rattle.z80dev.specs.Reading.{IsCutShort, OfText}
 use Rattle.z80dev.specs.declared.fault.Fault.{Fault}
 use Rattle.z80dev_commands.specs.Commands.{IsJob, IsMiscounted, z80dev}
 use Rattle.z80dev_commands.specs.declared.job.Job.{Job}
-use Rattle.z80dev_commands.specs.declared.job.Job.TheVariants.{Pipe, Asm, Link, Build, Explain, Check, Dis, Disk, Run, Debug}
+use Rattle.z80dev_commands.specs.declared.job.Job.TheVariants.{Pipe, Asm, Link, Build, Explain, Check, Dis, Disk, Run, Debug, Play}
 use Rattle.z80dev_finish.specs.End.{IsPut, Tells, TellsOf, end_status}
 use Rattle.z80dev_finish.specs.declared.end.End.{End}
 use Rattle.z80dev_finish.specs.declared.end.End.TheVariants as end
 use Rattle.z80dev_jobs.specs.Disks.{DiskJobEnds, TellsLine}
-use Rattle.z80dev_jobs.specs.Making.{AsmEnds, BuildEnds, CheckEnds, DisEnds, Effect, LinkEnds, PutsLines, defines_of, effect_of}
+use Rattle.z80dev_jobs.specs.Making.{AsmEnds, BuildEnds, CheckEnds, DisEnds, Effect, LinkEnds, PutsLines, effect_of}
 use Rattle.z80dev_jobs.specs.Debugging.{DebugEnds}
 use Rattle.z80dev_jobs.specs.Explaining.{ExplainEnds}
+use Rattle.z80dev_jobs.specs.Playing.{PlayEndsWith, bad_in_play}
 use Rattle.z80dev_jobs.specs.Running.{RunEnds}
 use Rattle.z80dev_jobs.specs.Words.{AreTexts, IsNotText}
+use Rattle.z80dev_jobs.specs.Values.{bad_define, bad_in_build, bad_in_explain, bad_symbols}
 use Rattle.z80dev_jobs.specs.World.{World}
-use Rattle.z80dev_make.specs.Defines.{first_bad}
 
 abbrev pub effect : World → World → Effect
 effect old new = effect_of old.folder new.folder old.output new.output
@@ -57,18 +58,18 @@ pub record Untouched (old new : World) : Type 0 where
 abbrev pub LacksMemory : Stream → Stream → Stream → Stream → ℕ → Type 0
 LacksMemory before after old new status = (status ≡ 1) × (after ≡ before) × Tells end.NoMemory old new
 
--- A definition on the command line is refused, as wrong words are.
-abbrev pub RefusesDefine : List ℕ → Stream → Stream → Stream → Stream → ℕ → Type 0
-RefusesDefine word before after old new status = (status ≡ 2) × (after ≡ before) × IsPut old new (error_line (codes "BadDefine(" ++ word ++ codes ")"))
+-- The value of an option is refused with this text, as wrong words are.
+abbrev pub RefusesValue : List ℕ → Stream → Stream → Stream → Stream → ℕ → Type 0
+RefusesValue why before after old new status = (status ≡ 2) × (after ≡ before) × IsPut old new (error_line why)
 
--- The first definition that is not NAME=VALUE is refused. If there is none, the job is done.
+-- The first value that is wrong is refused. If there is none, the job is done.
 abbrev pub UnlessBad : Option (List ℕ) → (World → World → ℕ → Type 0) → World → World → ℕ → Type 0
 UnlessBad None Does old new status = Does old new status
-UnlessBad (Some word) Does old new status = Untouched old new × RefusesDefine word old.output new.output old.errors new.errors status
+UnlessBad (Some why) Does old new status = Untouched old new × RefusesValue why old.output new.output old.errors new.errors status
 
--- The definitions are looked at before any file is read. Memory may run out for that.
-abbrev pub Defining : List (List ℕ) → (World → World → ℕ → Type 0) → World → World → ℕ → Type 0
-Defining words Does old new status = UnlessBad (first_bad words) Does old new status ⊎ (Untouched old new × LacksMemory old.output new.output old.errors new.errors status)
+-- The values are looked at before any file is read. Memory may run out for that.
+abbrev pub Judging : Option (List ℕ) → (World → World → ℕ → Type 0) → World → World → ℕ → Type 0
+Judging why Does old new status = UnlessBad why Does old new status ⊎ (Untouched old new × LacksMemory old.output new.output old.errors new.errors status)
 
 -- Without words: the file of the source text on standard input is printed in hexadecimal.
 abbrev pub PipeEnds : World → World → ℕ → Type 0
@@ -78,15 +79,16 @@ PipeEnds old new status = (new.folder ≡ old.folder) × OfText old.input.left (
 -- What each job does.
 abbrev pub JobEnds : Job → World → World → ℕ → Type 0
 JobEnds Pipe old new status = PipeEnds old new status
-JobEnds (Asm asm) old new status = Defining (defines_of asm.shared) (ReportsLines (AsmEnds asm)) old new status
-JobEnds (Link link) old new status = Reports (LinkEnds link) old new status
-JobEnds (Build build) old new status = Defining (defines_of build.shared) (ReportsLines (BuildEnds build)) old new status
-JobEnds (Explain explain) old new status = Reports (ExplainEnds explain) old new status
+JobEnds (Asm asm) old new status = Judging (bad_define asm.shared) (ReportsLines (AsmEnds asm)) old new status
+JobEnds (Link link) old new status = Judging (bad_symbols link.symbols) (Reports (LinkEnds link)) old new status
+JobEnds (Build build) old new status = Judging (bad_in_build build) (ReportsLines (BuildEnds build)) old new status
+JobEnds (Explain explain) old new status = Judging (bad_in_explain explain) (Reports (ExplainEnds explain)) old new status
 JobEnds (Check check) old new status = Reports (CheckEnds check.sizes.now check.cert.now) old new status
 JobEnds (Dis dis) old new status = Reports (DisEnds dis) old new status
 JobEnds (Disk job) old new status = ReportsLine (DiskJobEnds job) old new status
 JobEnds (Run run) old new status = RunEnds run old new status
 JobEnds (Debug debugging) old new status = DebugEnds debugging old new status
+JobEnds (Play play) old new status = Judging (bad_in_play play) (PlayEndsWith play) old new status
 
 -- A word is not UTF-8.
 abbrev pub RefusesWord : ℕ → Stream → Stream → Stream → Stream → ℕ → Type 0

@@ -1,5 +1,5 @@
 -- How the command `debug` ends.
-use Rattle.std.specs.Prelude.{◌≡◌, ◌⊎◌, ℕ, List, [], Option, None, Some, Result, Ok, Err, Vec, codes, map}
+use Rattle.std.specs.Prelude.{◌≡◌, ◌⊎◌, ℕ, IfOk, List, [], Option, None, Some, Result, Ok, Err, Vec, codes, length, map, unwrap_or}
 use Rattle.std.specs.Borrow.{Bor}
 use Rattle.std.specs.Global.{Global}
 use Rattle.cpm_run.specs.declared.fault.StartFault.{StartFault}
@@ -13,10 +13,13 @@ use Rattle.z80dev_finish.specs.End.{Tells, end_status}
 use Rattle.z80dev_finish.specs.Files.{Folder}
 use Rattle.z80dev_finish.specs.declared.end.End.{End}
 use Rattle.z80dev_finish.specs.declared.end.End.TheVariants as end
-use Rattle.z80dev_jobs.specs.Reading.{IsNotRead, IsNotReadIfGiven, IsRead, IsReadIfGiven}
+use Rattle.z80dev_jobs.specs.Reading.{IsNotRead, IsNotReadIfGiven, IsRead, IsReadIfGiven, bytes_in}
 use Rattle.z80dev_jobs.specs.Running.{IsNotReady, IsRefusedAs}
+use Rattle.z80dev_jobs.specs.Telling.{AreKnown}
 use Rattle.z80dev_jobs.specs.World.{World}
 use Rattle.z80dev_jobs.specs.declared.running.Inputs.{Inputs}
+use Rattle.z80dev_run.specs.Labelled.{Known}
+use Rattle.z80dev_run.specs.Program.{IsDebuggedRun}
 
 -- a file has these bytes, if its path is given; no path is no bytes
 abbrev pub IsReadOrNone : Folder → Option (Bor (List ℕ)) → List ℕ → Type 0
@@ -51,10 +54,17 @@ IsDebugEnd (Err (debug.Broken fault)) e = e ≡ end.Stream
 abbrev pub IsQuiet : World → World → Type 0
 IsQuiet old new = (new.input ≡ old.input) × (new.output ≡ old.output)
 
--- The program is debugged with its words, by the commands on standard input.
+abbrev pub debugged_words : Debugging → List (List ℕ)
+debugged_words debugging = map (λ word. word.now) debugging.words.items
+
+-- The program is debugged with its words, by the commands on standard input: on the disk of the image, with what is typed, with its labels and
+-- with its listing. No listing is an empty one.
 abbrev pub IsDebugged : Debugging → Inputs → World → World → End → Type 0
-IsDebugged debugging inputs old new e = (result : Result Unit DebugFault)
-    × Debugs inputs.program.items (map (λ word. word.now) debugging.words.items) old.output new.output new.input.failed new.input.reads result × IsDebugEnd result e
+IsDebugged debugging inputs old new e = (known : Known) × AreKnown (bytes_in inputs.labels) (length inputs.program.items) known × (result : Result Unit DebugFault)
+    × Debugs inputs.program.items (debugged_words debugging) old.output new.output new.input.failed new.input.reads result
+    × IfOk result (λ done. IsDebuggedRun inputs.program.items (debugged_words debugging) inputs.image.items inputs.typed.items known.labels
+    (unwrap_or (bytes_in inputs.list) []) old.output new.output)
+    × IsDebugEnd result e
 
 -- `debug`: the files are read, and the program is debugged. No file is written.
 abbrev pub DebugEndsBy : Debugging → World → World → End → Type 0

@@ -7,7 +7,8 @@ use Rattle.z80dev_explain.specs.Explanation.{IsExplanation}
 use Rattle.z80dev_finish.specs.declared.end.End.{End}
 use Rattle.z80dev_finish.specs.declared.end.End.TheVariants as end
 use Rattle.z80dev_make.specs.declared.answer.SourceFile.{SourceFile}
-use Rattle.z80dev_jobs.specs.Making.{AreFiles, Effect, WithAll}
+use Rattle.z80dev_make.specs.declared.front.Front.{Front}
+use Rattle.z80dev_jobs.specs.Making.{AreFiles, Effect, IsFront, WithAll, shared_paths}
 
 -- Exactly this text is printed. Then the command is refused with the summary; without one, all is done.
 abbrev pub PrintsWith : List ℕ → Option (List ℕ) → Stream → Stream → End → Type 0
@@ -19,15 +20,18 @@ PrintsWith text summary before after _ = ⊥
 abbrev pub explained_paths : Explain → List (List ℕ)
 explained_paths explain = map (λ path. path.now) explain.sources.items
 
--- An explanation of the sources, which were all read, is printed.
-abbrev pub PrintsExplanation : Explain → List (List ℕ) → Effect → End → Type 0
-PrintsExplanation explain texts x e = (files : List SourceFile) × (text : List ℕ) × (summary : Option (List ℕ)) × AreFiles (explained_paths explain) texts files
-    × IsExplanation explain.grow files text summary × PrintsWith text summary x.before x.after e
+-- An explanation is printed of the sources, with definitions and shared files before each of them, all of which were read.
+abbrev pub PrintsExplanation : Explain → List (List ℕ) → List (List ℕ) → Stream → Stream → End → Type 0
+PrintsExplanation explain fronts texts before after e = (front : Front) × (files : List SourceFile) × (text : List ℕ) × (summary : Option (List ℕ))
+    × IsFront explain.shared fronts front × AreFiles (explained_paths explain) texts files
+    × IsExplanation front explain.grow files text summary × PrintsWith text summary before after e
 
 -- It is printed; or memory ran out for it, and nothing is printed.
-abbrev pub Explains : Explain → List (List ℕ) → Effect → End → Type 0
-Explains explain texts x e = PrintsExplanation explain texts x e ⊎ ((e ≡ end.NoMemory) × (x.after ≡ x.before))
+abbrev pub Explains : Explain → List (List ℕ) → List (List ℕ) → Stream → Stream → End → Type 0
+Explains explain fronts texts before after e = PrintsExplanation explain fronts texts before after e ⊎ ((e ≡ end.NoMemory) × (after ≡ before))
 
--- `explain`: the sources are read in the order of the words, and an explanation of them is printed. No file is written.
+-- `explain`: the shared files and then the sources are read in the order of the words, and an explanation of them is printed. No file is
+-- written.
 abbrev pub ExplainEnds : Explain → Effect → End → Type 0
-ExplainEnds explain x e = WithAll (explained_paths explain) (λ texts. (x.new ≡ x.old) × Explains explain texts x e) x e
+ExplainEnds explain x e = WithAll (shared_paths explain.shared) (λ fronts. WithAll (explained_paths explain)
+    (λ texts. (x.new ≡ x.old) × Explains explain fronts texts x.before x.after e) x e) x e

@@ -23,7 +23,8 @@ use Rattle.z80dev_finish.specs.declared.answer.Kind.TheVariants as kind
 use Rattle.z80dev_finish.specs.declared.end.End.{End}
 use Rattle.z80dev_finish.specs.declared.end.End.TheVariants as end
 use Rattle.z80dev_jobs.specs.Outputs.{base_of, why_not_written}
-use Rattle.z80dev_make.specs.Answers.{program_kinds}
+use Rattle.z80dev_jobs.specs.Products.{build_products, link_products}
+use Rattle.z80dev_make.specs.Products.{program_kinds}
 use Rattle.z80dev_jobs.specs.Reading.{IsNotRead, IsOneNotRead, IsRead}
 use Rattle.z80dev_make.specs.Asm.{IsAsm}
 use Rattle.z80dev_make.specs.Build.{IsMade}
@@ -136,8 +137,8 @@ abbrev pub object_paths : Link → List (List ℕ)
 object_paths link = map (λ path. path.now) link.objects.items
 
 abbrev pub LinkEnds : Link → Effect → End → Type 0
-LinkEnds link x e = UnlessRefused (why_not_written link.out.now (program_kinds false) (object_paths link))
-    (WithAll (object_paths link) (λ objects. CarriesOut link.out.now (MemoryAside (IsLink objects)) x e) x e) x e
+LinkEnds link x e = UnlessRefused (why_not_written link.out.now (program_kinds (link_products link)) (object_paths link))
+    (WithAll (object_paths link) (λ objects. CarriesOut link.out.now (MemoryAside (IsLink (link_products link) objects)) x e) x e) x e
 
 -- how many jumps are short and long, where this is wanted and there is a program
 abbrev pub jumps_lines : Bool → Option Jumps → List ℕ
@@ -155,7 +156,7 @@ source_paths build = map (λ path. path.now) build.sources.items
 -- the program of sources that were read, with definitions and shared files, which were read too, before each of them; its jumps and its warnings
 abbrev pub IsBuiltOf : Build → List (List ℕ) → List (List ℕ) → Option Jumps → List ℕ → Answer → Type 0
 IsBuiltOf build fronts texts jumps warned a = (front : Front) × (files : List SourceFile) × IsFront build.shared fronts front × AreFiles (source_paths build) texts files
-    × IsMade front files build.grow build.list a jumps × AreWarnings build.warn front files build.grow jumps warned
+    × IsMade front files build.grow (build_products build) a jumps × AreWarnings build.warn front files build.grow jumps warned
 
 -- It is written. The lines are its warnings, and how many of its jumps are short and long.
 abbrev pub WritesBuilt : List ℕ → Build → List (List ℕ) → List (List ℕ) → Effect → List ℕ → End → Type 0
@@ -164,7 +165,7 @@ WritesBuilt base build fronts texts x lines e = (jumps : Option Jumps) × (warne
 
 -- `build`: the shared files and then the sources are read, and their program is written.
 abbrev pub BuildsWith : List ℕ → Build → Effect → List ℕ → End → Type 0
-BuildsWith base build x lines e = UnlessRefused (why_not_written base (program_kinds build.list) (shared_paths build.shared ++ source_paths build))
+BuildsWith base build x lines e = UnlessRefused (why_not_written base (program_kinds (build_products build)) (shared_paths build.shared ++ source_paths build))
     (WithAll (shared_paths build.shared) (λ fronts. WithAll (source_paths build) (λ texts. WritesBuilt base build fronts texts x lines e) x e) x e) x e
 
 abbrev pub BuildEnds : Build → Effect → List ℕ → End → Type 0

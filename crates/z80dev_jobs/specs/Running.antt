@@ -132,9 +132,9 @@ Runs run known inputs claimed old new status =
 abbrev pub EndsBefore : End → World → World → ℕ → Type 0
 EndsBefore e old new status = (new.output ≡ old.output) × (status ≡ end_status e) × Tells e old.errors new.errors
 
--- The image is no disk, or the labels are refused.
+-- The image is no disk; or it is one, and the labels are refused.
 abbrev pub IsNotReady : Inputs → End → Type 0
-IsNotReady inputs e = IsNoDisk inputs.image.items e ⊎ AreNotKnown (bytes_in inputs.labels) e
+IsNotReady inputs e = IsNoDisk inputs.image.items e ⊎ ((disk : _) × IsMounted inputs.image.items (Ok disk) × AreNotKnown (bytes_in inputs.labels) e)
 
 -- The inputs are read, and the program is run.
 abbrev pub RunEndsWith : Run → World → World → ℕ → Type 0

@@ -46,11 +46,11 @@ last_count telling = unwrap_or telling.last 0
 abbrev pub is_silent : Telling → Bool
 is_silent telling = not telling.registers && ((last_count telling == 0) && (not (is_some telling.trace) && not (is_some telling.profile)))
 
--- What a run is to keep. The registers at its end and its last steps need two more steps, which say where it came from.
+-- What a run is to keep. The last three steps say from where the program came to its end, so three more are kept than are asked for.
 abbrev pub wish_of : Telling → Wish
 wish_of telling = record {
   first = if is_some telling.trace then TRACE_STEPS else 0;
-  last = if telling.registers || not (last_count telling == 0) then last_count telling + 2 else 0;
+  last = if telling.registers || not (last_count telling == 0) then last_count telling + 3 else 0;
   counts = is_some telling.profile;
 }
 

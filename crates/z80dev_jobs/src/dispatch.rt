@@ -4,12 +4,13 @@ ghost use Rattle.std.specs.Prelude.{◌≡◌, ◌≤◌, false, map};
 ghost use Rattle.debugger.specs.declared.conversation.TheConstants.{MOST_READS};
 ghost use Rattle.clap.specs.Words.{kind_of};
 ghost use Rattle.z80dev_finish.specs.End.{Tells, end_status};
-ghost use Rattle.z80dev_make.specs.Defines.{first_bad};
-ghost use Rattle.z80dev_jobs.specs.Command.{CommandEnds, Defining, JobEnds, ReportsLines, TellsAtEnd, TellsWith};
-ghost use Rattle.z80dev_jobs.specs.Making.{AsmEnds, BuildEnds, defines_of, ended};
-ghost use Rattle.z80dev_jobs.specs.Private.Steps.{HasJobUser, JudgesDefines, RefusesError, RefusesFault, end_after, end_in, line_in, lines_after};
+ghost use Rattle.z80dev_jobs.specs.Command.{CommandEnds, JobEnds, Judging, Reports, ReportsLines, TellsAtEnd, TellsWith};
+ghost use Rattle.z80dev_jobs.specs.Explaining.{ExplainEnds};
+ghost use Rattle.z80dev_jobs.specs.Making.{AsmEnds, BuildEnds, LinkEnds, ended};
+ghost use Rattle.z80dev_jobs.specs.Private.Steps.{HasJobUser, RefusesError, RefusesFault, end_after, end_in, line_in, lines_after};
 ghost use Rattle.z80dev_jobs.specs.Running.{RunEnds};
 ghost use Rattle.z80dev_jobs.specs.Reading.{Reader, reader_of};
+ghost use Rattle.z80dev_jobs.specs.Values.{bad_define, bad_in_build, bad_in_explain, bad_symbols};
 ghost use Rattle.z80dev_jobs.specs.World.{world_of};
 
 use crate::debugging::debug_job;
@@ -18,16 +19,18 @@ use crate::disks::do_on_disk;
 use crate::explaining::explain_files;
 use crate::host::{Ended, Host};
 use crate::making::{asm_file, build_files, check_files, link_files};
+use crate::playing::play_job;
 use crate::running::{STEPS, end_run, inputs_of, prepare, put_lines};
 use crate::telling::{refuse_telling, run_telling};
 use crate::tips::tip;
+use crate::values::{bad_define, bad_in_build, bad_in_explain, bad_symbols, refuse_value};
 use crate::words::{WordsFault, texts_of};
 use clap::Error;
 use clap::error::ErrorKind;
 use std::alloc::Global;
 use streams::{print, put, tell};
-use z80dev::{DONE, End, Files, Input, Job, Sink, USAGE, bad_define, commands, pipe, report};
-use z80dev_commands::{Asm, Build, Run};
+use z80dev::{DONE, End, Files, Input, Job, Sink, USAGE, commands, pipe, report};
+use z80dev_commands::{Asm, Build, Explain, Link, Run};
 use z80dev_run::Ran;
 
 /// Reports an end, however a function passed it on, and gives the exit status.
@@ -114,23 +117,6 @@ fn report_lines<E: Sink>(ended: Result<Vec<u8>, End<'_>>, errors: &mut E) -> u8
     }
 }
 
-/// Reports the first definition that is not NAME=VALUE, and gives the exit status; or None if there is no such definition.
-fn refuse_define<E: Sink>(alloc: Global, defines: &[&str], errors: &mut E) -> Option<u8>
-    ensures { JudgesDefines (first_bad (map (λ word. word.now) defines.now)) (E.stream errors.old) (E.stream errors.new) result }
-{
-    let Ok(bad) = bad_define(alloc, defines) else {
-        return Some(report(&End::NoMemory, errors));
-    };
-    let word = bad?;
-    match format!(in alloc; "BadDefine({word})") {
-        Ok(text) => {
-            let _ = tell(errors, text.as_bytes());
-            Some(USAGE)
-        }
-        Err(_) => Some(report(&End::NoMemory, errors)),
-    }
-}
-
 /// Assembles a source, unless a definition is refused, and gives the exit status.
 fn asm_job<F: Files, W: Sink, E: Sink>(
     alloc: Global,
@@ -139,15 +125,31 @@ fn asm_job<F: Files, W: Sink, E: Sink>(
     output: &mut W,
     errors: &mut E,
 ) -> u8
-    ensures { (input : Reader) → Defining (defines_of job.now.shared) (ReportsLines (AsmEnds job.now)) (world_of (F.folder files.old) input (W.stream output.old) (E.stream errors.old)) (world_of (F.folder files.new) input (W.stream output.new) (E.stream errors.new)) result }
+    ensures { (input : Reader) → Judging (bad_define job.now.shared) (ReportsLines (AsmEnds job.now)) (world_of (F.folder files.old) input (W.stream output.old) (E.stream errors.old)) (world_of (F.folder files.new) input (W.stream output.new) (E.stream errors.new)) result }
 {
-    if let Some(status) = refuse_define(alloc, &job.shared.defines, errors) {
+    if let Some(status) = refuse_value(bad_define(alloc, &job.shared), errors) {
         return status;
     }
     report_lines(asm_file(alloc, job, files, output), errors)
 }
 
-/// Builds a program, unless a definition is refused, and gives the exit status.
+/// Links a program, unless a value is refused, and gives the exit status.
+fn link_job<F: Files, W: Sink, E: Sink>(
+    alloc: Global,
+    job: &Link<'_>,
+    files: &mut F,
+    output: &mut W,
+    errors: &mut E,
+) -> u8
+    ensures { (input : Reader) → Judging (bad_symbols job.now.symbols) (Reports (LinkEnds job.now)) (world_of (F.folder files.old) input (W.stream output.old) (E.stream errors.old)) (world_of (F.folder files.new) input (W.stream output.new) (E.stream errors.new)) result }
+{
+    if let Some(status) = refuse_value(bad_symbols(alloc, job.symbols), errors) {
+        return status;
+    }
+    report_any(link_files(alloc, job, files, output), errors)
+}
+
+/// Builds a program, unless a value is refused, and gives the exit status.
 fn build_job<F: Files, W: Sink, E: Sink>(
     alloc: Global,
     job: &Build<'_>,
@@ -155,12 +157,32 @@ fn build_job<F: Files, W: Sink, E: Sink>(
     output: &mut W,
     errors: &mut E,
 ) -> u8
-    ensures { (input : Reader) → Defining (defines_of job.now.shared) (ReportsLines (BuildEnds job.now)) (world_of (F.folder files.old) input (W.stream output.old) (E.stream errors.old)) (world_of (F.folder files.new) input (W.stream output.new) (E.stream errors.new)) result }
+    ensures { (input : Reader) → Judging (bad_in_build job.now) (ReportsLines (BuildEnds job.now)) (world_of (F.folder files.old) input (W.stream output.old) (E.stream errors.old)) (world_of (F.folder files.new) input (W.stream output.new) (E.stream errors.new)) result }
 {
-    if let Some(status) = refuse_define(alloc, &job.shared.defines, errors) {
+    if let Some(status) = refuse_value(bad_in_build(alloc, job), errors) {
         return status;
     }
     report_lines(build_files(alloc, job, files, output), errors)
+}
+
+/// Explains sources, unless a value is refused, and gives the exit status.
+fn explain_job<F: Files, W: Sink, E: Sink>(
+    alloc: Global,
+    job: &Explain<'_>,
+    is_terminal: bool,
+    files: &mut F,
+    output: &mut W,
+    errors: &mut E,
+) -> u8
+    ensures { (input : Reader) → Judging (bad_in_explain job.now) (Reports (ExplainEnds job.now)) (world_of (F.folder files.old) input (W.stream output.old) (E.stream errors.old)) (world_of (F.folder files.new) input (W.stream output.new) (E.stream errors.new)) result }
+{
+    if let Some(status) = refuse_value(bad_in_explain(alloc, job), errors) {
+        return status;
+    }
+    report_any(
+        explain_files(alloc, job, is_terminal, files, output),
+        errors,
+    )
 }
 
 /// Runs a program, and gives the exit status with what the command worked on.
@@ -198,6 +220,7 @@ fn run_job<F: Files, I: Input, W: Sink + Drop, E: Sink>(
         input,
         output,
         mut errors,
+        is_terminal,
     } = host;
     let steps = job.steps.unwrap_or(STEPS);
     let listing = inputs.list.as_deref();
@@ -217,6 +240,7 @@ fn run_job<F: Files, I: Input, W: Sink + Drop, E: Sink>(
         input,
         output,
         errors,
+        is_terminal,
     };
     Ended { status, host }
 }
@@ -243,10 +267,13 @@ fn work<F: Files, I: Input, W: Sink + Drop, E: Sink>(
             &mut host.output,
             &mut host.errors,
         ),
-        Job::Link(link) => {
-            let end = link_files(alloc, &link, &mut host.files, &mut host.output);
-            report_any(end, &mut host.errors)
-        }
+        Job::Link(link) => link_job(
+            alloc,
+            &link,
+            &mut host.files,
+            &mut host.output,
+            &mut host.errors,
+        ),
         Job::Build(build) => build_job(
             alloc,
             &build,
@@ -254,10 +281,14 @@ fn work<F: Files, I: Input, W: Sink + Drop, E: Sink>(
             &mut host.output,
             &mut host.errors,
         ),
-        Job::Explain(explain) => {
-            let end = explain_files(alloc, &explain, &mut host.files, &mut host.output);
-            report_any(end, &mut host.errors)
-        }
+        Job::Explain(explain) => explain_job(
+            alloc,
+            &explain,
+            host.is_terminal,
+            &mut host.files,
+            &mut host.output,
+            &mut host.errors,
+        ),
         Job::Check(check) => {
             let end = check_files(
                 alloc,
@@ -285,6 +316,7 @@ fn work<F: Files, I: Input, W: Sink + Drop, E: Sink>(
             &mut host.errors,
         ),
         Job::Run(run) => return run_job(alloc, &run, host),
+        Job::Play(play) => return play_job(alloc, &play, host),
     };
     Ended { status, host }
 }

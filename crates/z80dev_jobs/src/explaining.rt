@@ -1,16 +1,30 @@
 //! The command `explain`.
 
-ghost use Rattle.std.specs.Prelude.{option_map, string_bytes};
-ghost use Rattle.z80dev_jobs.specs.Explaining.{ExplainEnds, PrintsWith};
+ghost use Rattle.std.specs.Prelude.{◌≡◌, length, map, option_map, string_bytes};
+ghost use Rattle.z80dev_jobs.specs.Explaining.{ExplainEnds, Explains, PrintsWith};
 ghost use Rattle.z80dev_jobs.specs.Making.{effect_of, ended};
 
 use crate::making::sources_of;
 use crate::reading::read_all;
 use std::alloc::Global;
 use streams::print;
-use z80dev::{End, Files, Sink};
+use z80dev::{End, Files, Front, Sink};
 use z80dev_commands::Explain;
-use z80dev_explain::{Explanation, explain_sources};
+use z80dev_explain::{Asked, Explanation, Form, explain_sources};
+
+/// How an explanation is printed: as JSON if that is asked for; otherwise in colours if that is asked for, or if standard output is a
+/// terminal and nothing else is asked for.
+fn print_form(job: &Explain<'_>, is_terminal: bool) -> Form {
+    if job.json {
+        return Form::Json;
+    }
+    let colored = match job.color {
+        Some("always") => true,
+        Some("never") => false,
+        _ => is_terminal,
+    };
+    if colored { Form::Colored } else { Form::Plain }
+}
 
 /// Prints the text of an explanation. Its summary becomes the line of a refusal, since status 1 has a line on standard error with every
 /// command.
@@ -27,17 +41,46 @@ fn print_explanation<W: Sink>(explained: Explanation, output: &mut W) -> End<'st
     }
 }
 
-/// Prints every error of sources, or if there is none, the warnings about their jumps.
+/// Explains sources that were read, with definitions and shared files, which were read too, before each of them.
+fn explain_texts<W: Sink>(
+    alloc: Global,
+    job: &Explain<'_>,
+    form: Form,
+    fronts: &[Vec<u8>],
+    texts: &[Vec<u8>],
+    output: &mut W,
+) -> Result<End<'static>, End<'static>>
+    requires fronts { length job.now.shared.files.items ≡ length fronts.now }
+    requires texts { length job.now.sources.items ≡ length texts.now }
+    ensures { Explains job.now (map (λ text. text.items) fronts.now) (map (λ text. text.items) texts.now) (W.stream output.old) (W.stream output.new) (ended result) }
+{
+    let shared_files = sources_of(alloc, &job.shared.files, fronts)?;
+    let sources = sources_of(alloc, &job.sources, texts)?;
+    let front = Front {
+        defines: &job.shared.defines,
+        files: &shared_files,
+    };
+    let asked = Asked {
+        grow: job.grow,
+        jumps: job.jumps,
+        form,
+    };
+    let explained = explain_sources(alloc, front, &sources, asked)?;
+    Ok(print_explanation(explained, output))
+}
+
+/// Prints every error of sources, or if there is none, the warnings.
 pub(crate) fn explain_files<'a, F: Files, W: Sink>(
     alloc: Global,
     job: &Explain<'a>,
+    is_terminal: bool,
     files: &mut F,
     output: &mut W,
 ) -> Result<End<'a>, End<'a>>
     ensures { ExplainEnds job.now (effect_of (F.folder files.old) (F.folder files.new) (W.stream output.old) (W.stream output.new)) (ended result) }
 {
+    let fronts = read_all(alloc, &job.shared.files, files)?;
     let texts = read_all(alloc, &job.sources, files)?;
-    let sources = sources_of(alloc, &job.sources, &texts)?;
-    let explained = explain_sources(alloc, &sources, job.grow)?;
-    Ok(print_explanation(explained, output))
+    let form = print_form(job, is_terminal);
+    explain_texts(alloc, job, form, &fronts, &texts, output)
 }

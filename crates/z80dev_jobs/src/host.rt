@@ -7,6 +7,8 @@ pub struct Host<F, I, W, E> {
     pub input: I,
     pub output: W,
     pub errors: E,
+    /// Whether standard output is a terminal.
+    pub is_terminal: bool,
 }
 
 /// How the command ended.

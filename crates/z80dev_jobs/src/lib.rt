@@ -14,10 +14,12 @@ mod host;
 mod making;
 mod memory;
 mod outputs;
+mod playing;
 mod reading;
 mod running;
 mod telling;
 mod tips;
+mod values;
 mod words;
 
 pub use dispatch::command;

@@ -2,14 +2,16 @@
 
 ghost use Rattle.std.specs.Prelude.{◌≡◌, ◌++◌, IfOk, length, map};
 ghost use Rattle.z80dev_jobs.specs.Making.{AreFiles, AsmEnds, BuildEnds, CheckEnds, LinkEnds, effect_of, ended, jumps_lines};
+ghost use Rattle.z80dev_jobs.specs.Products.{build_products, form_named, symbols_form, link_products};
+ghost use Rattle.z80dev_make.specs.Products.{program_kinds};
 ghost use Rattle.z80dev_jobs.specs.Private.Steps.{BuildsTexts, DoneWithLines, EndsWithLines};
 
-use crate::outputs::{base_of, program_kinds, refuse_overwriting};
+use crate::outputs::{base_of, refuse_overwriting};
 use crate::reading::{read, read_all};
 use std::alloc::{AllocError, Global};
 use z80dev::{
-    End, Files, Front, Jumps, Kind, Made, Object, Sink, SourceFile, Wanted, asm, build,
-    check_texts, finish, link,
+    End, Files, Front, Jumps, Kind, Made, Object, Products, Sink, SourceFile, SymbolForm, Wanted,
+    asm, build, check_texts, finish, link, program_kinds,
 };
 use z80dev_commands::{Asm, Build, Link};
 
@@ -62,6 +64,56 @@ pub(crate) fn asm_file<'a, F: Files, W: Sink>(
     done_with_lines(finish(alloc, job.out, &answer, files, output), warnings)
 }
 
+/// The form of a file of symbols that a word names.
+pub(crate) fn form_named(word: &str) -> Option<SymbolForm>
+    ensures { result ≡ form_named word.now }
+{
+    match word {
+        "zsid" => Some(SymbolForm::Sid),
+        "ucsim" => Some(SymbolForm::Ucsim),
+        _ => None,
+    }
+}
+
+/// The form of the file of symbols, if one is wanted.
+fn symbols_form(symbols: Option<&str>) -> Option<SymbolForm>
+    ensures { result ≡ symbols_form symbols.entry }
+{
+    match symbols {
+        Some(word) => form_named(word),
+        None => None,
+    }
+}
+
+/// What `link` makes besides the program.
+fn link_products(job: &Link<'_>) -> Products
+    ensures { result ≡ link_products job.now }
+{
+    Products {
+        list: false,
+        map: job.map,
+        symbols: symbols_form(job.symbols),
+    }
+}
+
+/// What `build` makes besides the program.
+fn build_products(job: &Build<'_>) -> Products
+    ensures { result ≡ build_products job.now }
+{
+    Products {
+        list: job.list,
+        map: job.map,
+        symbols: symbols_form(job.symbols),
+    }
+}
+
+/// The kinds of the files that `build` writes.
+fn build_kinds(job: &Build<'_>) -> &'static [Kind]
+    ensures { result.now ≡ program_kinds (build_products job.now) }
+{
+    program_kinds(build_products(job))
+}
+
 /// Links objects to a program.
 pub(crate) fn link_files<'a, F: Files, W: Sink>(
     alloc: Global,
@@ -71,9 +123,10 @@ pub(crate) fn link_files<'a, F: Files, W: Sink>(
 ) -> Result<End<'a>, End<'a>>
     ensures { LinkEnds job.now (effect_of (F.folder files.old) (F.folder files.new) (W.stream output.old) (W.stream output.new)) (ended result) }
 {
-    refuse_overwriting(alloc, job.out, program_kinds(false), &[], &job.objects)?;
+    let products = link_products(job);
+    refuse_overwriting(alloc, job.out, program_kinds(products), &[], &job.objects)?;
     let objects = read_all(alloc, &job.objects, files)?;
-    let answer = link(alloc, &objects);
+    let answer = link(alloc, &objects, products);
     Ok(finish(alloc, job.out, &answer, files, output))
 }
 
@@ -129,7 +182,7 @@ fn build_texts<'a, 's, F: Files, W: Sink>(
     };
     let wanted = Wanted {
         grow: job.grow,
-        list: job.list,
+        products: build_products(job),
         warn: job.warn,
     };
     let Made {
@@ -152,7 +205,7 @@ pub(crate) fn build_files<'a, F: Files, W: Sink>(
     ensures { EndsWithLines (BuildEnds job.now (effect_of (F.folder files.old) (F.folder files.new) (W.stream output.old) (W.stream output.new))) result }
 {
     let base = base_of(job.out, &job.sources);
-    let kinds = program_kinds(job.list);
+    let kinds = build_kinds(job);
     refuse_overwriting(alloc, base, kinds, &job.shared.files, &job.sources)?;
     let fronts = read_all(alloc, &job.shared.files, files)?;
     let texts = read_all(alloc, &job.sources, files)?;

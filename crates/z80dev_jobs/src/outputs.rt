@@ -6,7 +6,6 @@ ghost use Rattle.std.specs.Path.{slash};
 ghost use Rattle.std.specs.Str.{bytes_eq};
 ghost use Rattle.z80dev_jobs.specs.Outputs.{base_of, begins_ending, ends_before_name, overwritten, why_not_written, without_ending};
 ghost use Rattle.z80dev_jobs.specs.Private.Steps.{IsClear};
-ghost use Rattle.z80dev_make.specs.Answers.{program_kinds};
 
 use std::alloc::{AllocError, Global};
 use z80dev::{End, Kind};
@@ -54,23 +53,6 @@ pub(crate) fn base_of<'a>(out: Option<&'a str>, sources: &[&'a str]) -> &'a str
         (Some(out), _) => out,
         (None, [first, ..]) => without_ending(first),
         (None, []) => "",
-    }
-}
-
-/// The files that make a program, and with `list` its listing and its symbols.
-pub(crate) fn program_kinds(list: bool) -> &'static [Kind]
-    ensures { result.now ≡ program_kinds list }
-{
-    if list {
-        &[
-            Kind::Sizes,
-            Kind::Certificate,
-            Kind::Com,
-            Kind::Listing,
-            Kind::Symbols,
-        ]
-    } else {
-        &[Kind::Sizes, Kind::Certificate, Kind::Com]
     }
 }
 

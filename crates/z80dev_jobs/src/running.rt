@@ -35,7 +35,7 @@ pub(crate) struct Inputs {
 }
 
 /// Claims the image of a disk; without a disk, the image is empty.
-fn claim_disk<'a, F: Files>(
+pub(crate) fn claim_disk<'a, F: Files>(
     alloc: Global,
     disk: Option<&'a str>,
     lock: bool,
@@ -109,17 +109,17 @@ pub(crate) fn prepare<'p, 'w>(
 }
 
 /// Keeps the image that a run leaves, if it has a disk of its own. This needs no memory, so that no change of the disk is lost for want of it.
-fn keep_disk<'a, F: Files, W>(
+pub(crate) fn keep_disk<'a, F: Files>(
     disk: Option<&'a str>,
     bytes: &[u8],
-    ran: &Ran<W>,
+    made: &[u8],
     files: &mut F,
 ) -> Result<(), End<'a>>
     requires free { IsFreeOf disk (F.folder files.old) }
-    ensures { IsKept disk.entry bytes.now (concat ran.now.image) (F.folder files.old) (F.folder files.new) result }
+    ensures { IsKept disk.entry bytes.now made.now (F.folder files.old) (F.folder files.new) result }
 {
     match disk {
-        Some(path) => keep(path, bytes, ran.image_bytes(), files),
+        Some(path) => keep(path, bytes, made, files),
         None => Ok(()),
     }
 }
@@ -135,7 +135,7 @@ fn why_at(why: Why, flushed: Result<(), WriteFailed>) -> Why
 }
 
 /// Writes lines that warn, if there are some, after a run whose program ended by itself.
-fn warn_after<E: Sink>(lines: &Option<String>, status: u8, errors: &mut E)
+pub(crate) fn warn_after<E: Sink>(lines: &Option<String>, status: u8, errors: &mut E)
     ensures { WarnsAfter (option_map string_bytes lines.now) (E.stream errors.old) (E.stream errors.new) status }
 {
     if status != DONE {
@@ -171,7 +171,7 @@ fn keep_all<'a, F: Files, W>(
     requires free { IsFreeOf job.now.disk (F.folder files.old) }
     ensures { KeepsAll job.now bytes.now (concat ran.now.image) told.now (F.folder files.old) (F.folder files.new) result }
 {
-    keep_disk(job.disk, bytes, ran, files)?;
+    keep_disk(job.disk, bytes, ran.image_bytes(), files)?;
     Ok(write_if_told(job.telling, told, files))
 }
 

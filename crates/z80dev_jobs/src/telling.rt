@@ -67,9 +67,9 @@ fn wish_of(telling: Telling<'_>) -> Wish
         } else {
             0
         },
-        // The step that led to the end, and the one before it, say from where the program came to its end.
+        // The last three steps say from where the program came to its end, also if it did so by a call of the system.
         last: if telling.registers || last != 0 {
-            last + 2
+            last + 3
         } else {
             0
         },

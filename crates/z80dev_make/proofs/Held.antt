@@ -61,16 +61,17 @@ pub none_left : (files : List SourceFile) (lines : List (Vec ℕ Global)) (modul
 none_left files lines modules (inl none) = ap (λ ls. map shown_in (zip files (zip ls modules))) none ∙ ap (map shown_in) (zip_nothing files)
 none_left files lines modules (inr none) = ap (λ ms. map shown_in (zip files (zip lines ms))) none ∙ ap (λ both. map shown_in (zip files both)) (zip_nothing lines) ∙ ap (map shown_in) (zip_nothing files)
 
--- the sources of a program that was built, as warnings show them, from copies of the lines of its modules
-pub all_built : (files : List SourceFile) (own : List (Vec ℕ Global)) (lines : List listing.Lines) (modules : List held.Module) → map (λ o. o.items) own ≡ map (λ l. l.each.items) lines
-    → map shown_in (zip files (zip own modules)) ≡ map built_source (zip files (zip lines modules))
-all_built [] own lines modules same = refl
-all_built (f ∷ files) [] [] modules same = refl
-all_built (f ∷ files) [] (l ∷ lines) modules same = cc
-all_built (f ∷ files) (o ∷ own) [] modules same = cc
-all_built (f ∷ files) (o ∷ own) (l ∷ lines) [] same = refl
-all_built (f ∷ files) (o ∷ own) (l ∷ lines) (m ∷ modules) same =
-    let one : o.items ≡ l.each.items = cc in
-    let rest : map (λ x. x.items) own ≡ map (λ x. x.each.items) lines = cc in
+-- the sources of a program that was built after a front, as warnings show them, from the own lines of its modules
+pub all_built : (front : Front) (files : List SourceFile) (own : List (Vec ℕ Global)) (lines : List listing.Lines) (modules : List held.Module)
+    → map (λ o. o.items) own ≡ map (λ l. map (earlier (front_lines front)) l.each.items) lines
+    → map shown_in (zip files (zip own modules)) ≡ map (built_source front) (zip files (zip lines modules))
+all_built front [] own lines modules same = refl
+all_built front (f ∷ files) [] [] modules same = refl
+all_built front (f ∷ files) [] (l ∷ lines) modules same = cc
+all_built front (f ∷ files) (o ∷ own) [] modules same = cc
+all_built front (f ∷ files) (o ∷ own) (l ∷ lines) [] same = refl
+all_built front (f ∷ files) (o ∷ own) (l ∷ lines) (m ∷ modules) same =
+    let one : o.items ≡ map (earlier (front_lines front)) l.each.items = cc in
+    let rest : map (λ x. x.items) own ≡ map (λ x. map (earlier (front_lines front)) x.each.items) lines = cc in
     ap (λ n. record { path = f.path.now; lines = n; holds = module_of m } ∷ map shown_in (zip files (zip own modules))) one
-    ∙ ap (λ t. built_source (f, (l, m)) ∷ t) (all_built files own lines modules rest)
+    ∙ ap (λ t. built_source front (f, (l, m)) ∷ t) (all_built front files own lines modules rest)

@@ -29,11 +29,6 @@ text_files sizes cert = (kind.Sizes, sizes) ∷ (kind.Certificate, cert) ∷ []
 abbrev pub program_files : List ℕ → List ℕ → List ℕ → List (Kind × List ℕ)
 program_files sizes cert file = text_files sizes cert ++ (kind.Com, file) ∷ []
 
--- the kinds of these files, and with `list` those of the listing and the symbols, in the order in which they are written
-abbrev pub program_kinds : Bool → List Kind
-program_kinds false = kind.Sizes ∷ kind.Certificate ∷ kind.Com ∷ []
-program_kinds true = kind.Sizes ∷ kind.Certificate ∷ kind.Com ∷ kind.Listing ∷ kind.Symbols ∷ []
-
 abbrev pub kinds_of : Answer → List Kind
 kinds_of answer = map (λ f. f.0) answer.files
 

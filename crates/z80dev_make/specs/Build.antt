@@ -7,18 +7,20 @@ use Rattle.zlink.specs.declared.fault.BuildFault.TheVariants as build
 use Rattle.zlink.specs.declared.origins.Origin.{Origin}
 use Rattle.zlink.specs.declared.source.Source.{Source}
 use Rattle.zlink.specs.Built.{IsBuilt, IsExactBuild}
+use Rattle.zlink.specs.Linked.{symbol_of}
 use Rattle.zlisting.specs.Listing.{listing}
 use Rattle.zlisting.specs.Symbols.{symbols}
 use Rattle.z80dev_make.specs.Front.{earlier, front_lines, front_text, source_fault_text}
 use Rattle.z80dev_make.specs.Shared.{UnlessFaulty}
 use Rattle.z80dev_make.specs.declared.front.Front.{Front}
 use Rattle.z80dev_finish.specs.declared.answer.Kind.{Kind}
-use Rattle.z80dev_finish.specs.declared.answer.Kind.TheVariants as kind
 use Rattle.z80dev_make.specs.declared.answer.SourceFile.{SourceFile}
 use Rattle.z80dev_finish.specs.Answers.{Answer, nothing}
 use Rattle.z80dev_make.specs.declared.jumps.Jumps.{Jumps}
 use Rattle.z80dev_make.specs.Jumps.{jumps_of}
 use Rattle.z80dev_make.specs.Answers.{IsSource, no_program, program_files}
+use Rattle.z80dev_make.specs.Products.{IsMapText, listing_files, map_files, symbol_files}
+use Rattle.z80dev_make.specs.declared.products.Products.{Products}
 
 abbrev pub source_path : Option SourceFile → List ℕ
 source_path None = []
@@ -39,10 +41,10 @@ line_from files (Some from) = grown_text (path_at files from.source) from.line +
 abbrev pub grown_lines : List SourceFile → List Origin → List ℕ → List ℕ
 grown_lines files origins grown = flat_map (λ k. line_from files (slice_get origins k)) grown
 
--- the files of a program, with its listing and its labels if they were asked for
-abbrev pub built_files : Bool → List Source → Built → List (Kind × List ℕ)
-built_files false sources b = program_files b.sizes.items b.cert.items b.com.items
-built_files true sources b = program_files b.sizes.items b.cert.items b.com.items ++ (kind.Listing, listing b sources) ∷ [] ++ (kind.Symbols, symbols b) ∷ []
+-- the files of a program with those that were asked for besides, given the text of its map
+abbrev pub built_files : Products → List Source → Built → List ℕ → List (Kind × List ℕ)
+built_files products sources b mapped = program_files b.sizes.items b.cert.items b.com.items ++ listing_files products.list (listing b sources)
+    ++ symbol_files products.list products.symbols (symbols b) (map symbol_of b.symbols.items) ++ map_files products.«map» mapped
 
 -- the source is the file's text after the text of the front, and its name is the file's path
 abbrev pub IsBehind : Front → SourceFile → Source → Type 0
@@ -65,17 +67,18 @@ pub record HasOwnLines (front : Front) (b own : Built) : Type 0 where
   pub last : own.last.items ≡ map (earlier (front_lines front)) b.last.items
 
 -- the files of a program, whose listing shows the sources without the front
-abbrev pub built_answer : Bool → List SourceFile → List Source → Built → Answer
-built_answer list files sources own = record { files = built_files list sources own; printed = grown_lines files own.statements.items own.grown.items; said = None }
+abbrev pub built_answer : Products → List SourceFile → List Source → Built → List ℕ → Answer
+built_answer products files sources own mapped = record { files = built_files products sources own mapped; printed = grown_lines files own.statements.items own.grown.items; said = None }
 
--- what is answered, given the result of building
-abbrev pub IsAnswerOf : Front → Bool → List SourceFile → List Source → Result Built BuildFault → Answer → Type 0
-IsAnswerOf front list files sources (Ok b) answer = (own : Built) × HasOwnLines front b own × (answer ≡ built_answer list files sources own)
-IsAnswerOf front list files sources (Err (build.Asm number fault)) answer = answer ≡ nothing (source_fault_text front (path_at files number) fault)
-IsAnswerOf front list files sources (Err (build.Link fault)) answer = answer ≡ no_program fault
+-- what is answered, given the result of building the sources after the front
+abbrev pub IsAnswerOf : Front → Bool → Products → List SourceFile → List Source → List Source → Result Built BuildFault → Answer → Type 0
+IsAnswerOf front grow products files behind sources (Ok b) answer =
+    (own : Built) × HasOwnLines front b own × (mapped : List ℕ) × IsMapText products.«map» grow behind b mapped × (answer ≡ built_answer products files sources own mapped)
+IsAnswerOf front grow products files behind sources (Err (build.Asm number fault)) answer = answer ≡ nothing (source_fault_text front (path_at files number) fault)
+IsAnswerOf front grow products files behind sources (Err (build.Link fault)) answer = answer ≡ no_program fault
 
 -- This is answered for building the sources after the text of the front, and these are the jumps of the program.
-pub record IsBuild (front : Front) (files : List SourceFile) (grow list : Bool) (answer : Answer) (jumps : Option Jumps) : Type 0 where
+pub record IsBuild (front : Front) (files : List SourceFile) (grow : Bool) (products : Products) (answer : Answer) (jumps : Option Jumps) : Type 0 where
   pub behind : List Source
   pub named : AllZip (IsBehind front) files behind
   pub result : Result Built BuildFault
@@ -83,7 +86,7 @@ pub record IsBuild (front : Front) (files : List SourceFile) (grow list : Bool) 
   pub exact : IsExactBuild grow behind result
   pub sources : List Source
   pub alone : AllZip IsSource files sources
-  pub answers : IsAnswerOf front list files sources result answer
+  pub answers : IsAnswerOf front grow products files behind sources result answer
   pub counted : jumps ≡ jumps_of result
 
 -- Only this is reported.
@@ -91,6 +94,6 @@ abbrev pub IsRefusal : List ℕ → Answer → Option Jumps → Type 0
 IsRefusal said answer jumps = (answer ≡ nothing said) × (jumps ≡ None)
 
 -- The answer is the first error of the front; or if it has none, that of building the sources after it; or memory ran out.
-abbrev pub IsMade : Front → List SourceFile → Bool → Bool → Answer → Option Jumps → Type 0
-IsMade front files grow list answer jumps = IsRefusal (codes "NoMemory") answer jumps
-    ⊎ UnlessFaulty front (λ said. IsRefusal said answer jumps) (IsBuild front files grow list answer jumps)
+abbrev pub IsMade : Front → List SourceFile → Bool → Products → Answer → Option Jumps → Type 0
+IsMade front files grow products answer jumps = IsRefusal (codes "NoMemory") answer jumps
+    ⊎ UnlessFaulty front (λ said. IsRefusal said answer jumps) (IsBuild front files grow products answer jumps)

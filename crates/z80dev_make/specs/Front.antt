@@ -1,5 +1,5 @@
 -- The front: what comes before each source. Definitions from the command line come first, then shared files.
-use Rattle.std.specs.Prelude.{ℕ, ◌+◌, ◌-◌, ◌==◌, ◌&&◌, not, Bool, true, false, List, [], ◌∷◌, ◌++◌, Option, Some, None, codes, drop, if◌then◌else◌, length, nat_le, slice_get, take}
+use Rattle.std.specs.Prelude.{◌≡◌, ◌<◌, ◌^◌, ℕ, ◌+◌, ◌-◌, ◌==◌, ◌&&◌, not, Bool, true, false, List, [], ◌∷◌, ◌++◌, Option, Some, None, codes, drop, if◌then◌else◌, length, nat_le, slice_get, take}
 use Rattle.std.specs.Borrow.{Bor}
 use Rattle.std.specs.List.{flat_map, list_all, prefix_len, sum_by}
 use Rattle.std.specs.Option.{option_map}
@@ -56,6 +56,10 @@ line_count file = length (source_lines file.text.now)
 
 abbrev pub front_lines : Front → ℕ
 front_lines front = length front.defines.now + sum_by line_count front.files.now
+
+-- Taken from the number of a line, `lines` give the same as `all`. They may be fewer, if both are higher than any number of a line.
+abbrev pub CountsLines : ℕ → ℕ → Type 0
+CountsLines lines all = (line : ℕ) → line < 2 ^ 32 → line - lines ≡ line - all
 
 -- the number of a line without this many lines before it
 abbrev pub earlier : ℕ → ℕ → ℕ

@@ -1,15 +1,20 @@
 -- What `link` answers for object files.
-use Rattle.std.specs.Prelude.{◌≡◌, ◌⊎◌, ℕ, List, [], Some, None, Result, Ok, Err, slice_get, take}
+use Rattle.std.specs.Prelude.{◌≡◌, ◌⊎◌, ℕ, List, [], ◌++◌, false, Some, None, Result, Ok, Err, map, slice_get, take}
 use Rattle.std.specs.List.{AllZip}
 use Rattle.zmo_module.specs.Modules.{Module}
 use Rattle.zmo_object.specs.declared.fault.ObjectFault.{ObjectFault}
 use Rattle.zmo_object.specs.Reading.{read_of}
 use Rattle.zlink.specs.declared.fault.LinkFault.{LinkFault}
 use Rattle.zlink.specs.declared.linking.Linked.{Linked}
-use Rattle.zlink.specs.Linked.{IsExactLink, IsLinked}
+use Rattle.zlink.specs.Linked.{IsExactLink, IsLinked, symbol_of}
 use Rattle.z80dev_make.specs.Faults.Refusals.{object_text}
 use Rattle.z80dev_finish.specs.Answers.{Answer, nothing}
+use Rattle.z80dev_finish.specs.declared.answer.Kind.{Kind}
+use Rattle.program_map.specs.Map.{program_map}
+use Rattle.program_map.specs.Text.{map_text}
 use Rattle.z80dev_make.specs.Answers.{no_program, program_files}
+use Rattle.z80dev_make.specs.Products.{map_files, symbol_files}
+use Rattle.z80dev_make.specs.declared.products.Products.{Products}
 
 -- the bytes are read as this module
 abbrev pub IsObject : List ℕ → Module → Type 0
@@ -24,20 +29,25 @@ pub record IsFirstFaultyObject (objects : List (List ℕ)) (fault : ObjectFault)
   pub there : slice_get objects number ≡ Some bytes
   pub faulty : read_of bytes ≡ Err fault
 
--- the files of a program that is linked, or why there is none
-abbrev pub link_answer : Result Linked LinkFault → Answer
-link_answer (Ok l) = record { files = program_files l.sizes.items l.cert.items l.com.items; printed = []; said = None }
-link_answer (Err fault) = no_program fault
+-- the files of a program that was linked of modules, with those that were asked for besides
+abbrev pub linked_files : Products → List Module → Linked → List (Kind × List ℕ)
+linked_files products modules l = program_files l.sizes.items l.cert.items l.com.items
+    ++ symbol_files false products.symbols [] (map symbol_of l.symbols.items) ++ map_files products.«map» (map_text (program_map None l.places.items modules))
+
+-- these files, or why there are none
+abbrev pub link_answer : Products → List Module → Result Linked LinkFault → Answer
+link_answer products modules (Ok l) = record { files = linked_files products modules l; printed = []; said = None }
+link_answer products modules (Err fault) = no_program fault
 
 -- The object files are these modules, and this is what linking them answers.
-pub record IsLinkOf (objects : List (List ℕ)) (answer : Answer) : Type 0 where
+pub record IsLinkOf (products : Products) (objects : List (List ℕ)) (answer : Answer) : Type 0 where
   pub modules : List Module
   pub read : AllZip IsObject objects modules
   pub result : Result Linked LinkFault
   pub linked : IsLinked modules result
   pub exact : IsExactLink modules result
-  pub answers : answer ≡ link_answer result
+  pub answers : answer ≡ link_answer products modules result
 
 -- The answer is that of linking the object files, or the error of the first one that cannot be read.
-abbrev pub IsLink : List (List ℕ) → Answer → Type 0
-IsLink objects answer = IsLinkOf objects answer ⊎ ((fault : ObjectFault) × IsFirstFaultyObject objects fault × (answer ≡ nothing (object_text fault)))
+abbrev pub IsLink : Products → List (List ℕ) → Answer → Type 0
+IsLink products objects answer = IsLinkOf products objects answer ⊎ ((fault : ObjectFault) × IsFirstFaultyObject objects fault × (answer ≡ nothing (object_text fault)))

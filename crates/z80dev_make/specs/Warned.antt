@@ -151,18 +151,18 @@ abbrev pub IsGivenAs : List ShownSource → Warning → JumpWarning → Type 0
 IsGivenAs sources found given =
     (given.source ≡ (site_of found).«module») × (given.line ≡ site_line sources (site_of found)) × (given.text.items ≡ warning_message sources found)
 
--- a source of a program that was built, as warnings show it
-abbrev pub built_source : SourceFile × (Lines × held.Module) → ShownSource
-built_source (file, (lines, m)) = record { path = file.path.now; lines = lines.each.items; holds = module_of m }
+-- a source of a program that was built after a front, as warnings show it
+abbrev pub built_source : Front → SourceFile × (Lines × held.Module) → ShownSource
+built_source front (file, (lines, m)) = record { path = file.path.now; lines = map (earlier (front_lines front)) lines.each.items; holds = module_of m }
 
-abbrev pub built_sources : List SourceFile → Built → List ShownSource
-built_sources files built = map built_source (zip files (zip built.lines.items built.modules.items))
+abbrev pub built_sources : Front → List SourceFile → Built → List ShownSource
+built_sources front files built = map (built_source front) (zip files (zip built.lines.items built.modules.items))
 
--- all warnings about the jumps of a program that was built of these files
-abbrev pub AreJumpWarnings : List SourceFile → Built → List JumpWarning → Type 0
-AreJumpWarnings files built given =
+-- all warnings about the jumps of a program that was built of these files after a front
+abbrev pub AreJumpWarnings : Front → List SourceFile → Built → List JumpWarning → Type 0
+AreJumpWarnings front files built given =
     let modules = map module_of built.modules.items in
-    AllZip (IsGivenAs (built_sources files built)) (found_unless (first_fault modules) (all_warnings (joined modules))) given
+    AllZip (IsGivenAs (built_sources front files built)) (found_unless (first_fault modules) (all_warnings (joined modules))) given
 
 -- the lines for sources; none if their modules have an error together
 abbrev pub build_warnings : Front → List SourceFile → List Assembled → List ℕ

@@ -3,9 +3,9 @@
 ghost use Rattle.std.specs.Prelude.{◌≡◌, ◌++◌, ◌-◌, ℕ, IfOk, length, map};
 ghost use Rattle.std.specs.List.{AllZip};
 ghost use Rattle.z80dev_make.specs.Answers.{IsSource};
-ghost use Rattle.z80dev_make.specs.Build.{HasOwnLines, earlier_origin};
-ghost use Rattle.z80dev_make.specs.Front.{earlier};
-ghost use Rattle.z80dev_make.specs.Private.Steps.{AreNamed, Counts};
+ghost use Rattle.z80dev_make.specs.Build.{HasOwnLines, IsBehind, earlier_origin};
+ghost use Rattle.z80dev_make.specs.Front.{CountsLines, earlier, front_text};
+ghost use Rattle.z80dev_make.specs.Private.Steps.{AreNamed};
 
 use crate::answer::SourceFile;
 use crate::front::{Front, front_lines, text_behind};
@@ -30,7 +30,7 @@ pub(crate) fn sources_of<'a>(
 }
 
 /// Answers the texts of files after the text of a front.
-pub(crate) fn texts_behind(
+pub fn texts_behind(
     alloc: Global,
     front: &[u8],
     files: &[SourceFile<'_>],
@@ -45,7 +45,7 @@ pub(crate) fn texts_behind(
 }
 
 /// Answers the sources with these texts. Their names are the paths of the files.
-pub(crate) fn sources_behind<'s>(
+fn named<'s>(
     alloc: Global,
     files: &'s [SourceFile<'_>],
     texts: &'s [Vec<u8>],
@@ -64,16 +64,33 @@ pub(crate) fn sources_behind<'s>(
     Ok(sources)
 }
 
+/// Answers sources after a front, given the texts of the front with theirs. Their names are the paths of the files.
+///
+/// # Errors
+///
+/// [`AllocError`] if memory ran out.
+pub fn sources_behind<'s>(
+    alloc: Global,
+    front: Front<'_>,
+    files: &'s [SourceFile<'_>],
+    texts: &'s [Vec<u8>],
+) -> Result<Vec<Source<'s>>, AllocError>
+    requires { map (λ text. text.items) texts.now ≡ map (λ file. front_text front ++ file.text.now) files.now }
+    ensures { IfOk result (λ sources. AllZip (IsBehind front.entry) files.now sources.items) }
+{
+    named(alloc, files, texts)
+}
+
 /// Answers the number that a line has in its own source, given how many lines the front has.
 fn own_line(line: u32, lines: usize) -> u32
-    ensures { (all : ℕ) → Counts lines all → result ≡ line - all }
+    ensures { (all : ℕ) → CountsLines lines all → result ≡ line - all }
 {
     (line as usize).saturating_sub(lines) as u32
 }
 
 /// Gives origins the numbers that their lines have in their own sources.
 fn number_origins(origins: &mut [Origin], lines: usize)
-    ensures { (all : ℕ) → Counts lines all → origins.new ≡ map (earlier_origin all) origins.old }
+    ensures { (all : ℕ) → CountsLines lines all → origins.new ≡ map (earlier_origin all) origins.old }
 {
     for origin in origins.iter_mut() {
         origin.line = own_line(origin.line, lines);
@@ -82,7 +99,7 @@ fn number_origins(origins: &mut [Origin], lines: usize)
 
 /// Gives lines the numbers that they have in their own sources.
 pub(crate) fn number_lines(numbers: &mut [u32], lines: usize)
-    ensures { (all : ℕ) → Counts lines all → numbers.new ≡ map (earlier all) numbers.old }
+    ensures { (all : ℕ) → CountsLines lines all → numbers.new ≡ map (earlier all) numbers.old }
 {
     for number in numbers.iter_mut() {
         *number = own_line(*number, lines);

@@ -1,6 +1,6 @@
 //! The command `build`: builds a program from sources.
 
-ghost use Rattle.std.specs.Prelude.{◌≡◌, [], IfOk, List, false, slice_get, string_bytes, true};
+ghost use Rattle.std.specs.Prelude.{◌≡◌, [], IfOk, List, Ok, Option, slice_get, string_bytes};
 ghost use Rattle.std.specs.List.{AllZip};
 ghost use Rattle.z80dev_make.specs.Answers.{answer_of, told_text};
 ghost use Rattle.z80dev_make.specs.Build.{IsAnswerOf, IsBehind, IsBuild, IsMade, IsRefusal, built_answer, grown_lines, line_from, path_at};
@@ -8,7 +8,12 @@ ghost use Rattle.z80dev_make.specs.Front.{front_text};
 ghost use Rattle.z80dev_make.specs.Jumps.{jumps_of};
 ghost use Rattle.z80dev_make.specs.Shared.{UnlessFaulty};
 ghost use Rattle.z80dev_make.specs.Warned.{AreWarnings};
+ghost use Rattle.program_map.specs.declared.form.SymbolForm.{SymbolForm};
+ghost use Rattle.z80dev_make.specs.Products.{IsMapText, listing_files, symbol_files};
 ghost use Rattle.zlink.specs.Built.{IsBuilt};
+ghost use Rattle.zlink.specs.Linked.{Symbol};
+ghost use Rattle.zlisting.specs.Listing.{listing};
+ghost use Rattle.zlisting.specs.Symbols.{symbols};
 ghost use Rattle.zlink.specs.declared.source.Source.{Source};
 
 use crate::answer::{SourceFile, no_program, program, refused, without_memory};
@@ -17,11 +22,13 @@ use crate::faults::Told;
 use crate::front::{Front, front_text};
 use crate::jumps::{Jumps, jumps_of};
 use crate::locating::told_behind;
+use crate::products::{Products, put_listing, put_map, put_symbols};
 use crate::sharing::fault_of_front;
 use crate::warning::warn_built;
+use program_map::{map_of_built, map_text};
 use std::alloc::{AllocError, Global};
 use std::fmt;
-use z80dev_finish::{Answer, Kind, NewFile};
+use z80dev_finish::Answer;
 use zlink::{BuildFault, Built, Origin, Source, build_with};
 use zlisting::{listing, symbols};
 
@@ -92,59 +99,78 @@ fn grown_lines(
     Ok(lines)
 }
 
-/// Answers the files of a program.
-fn plain<'a>(
+/// Answers the listing of a program, if it is wanted.
+fn listing_of(
     alloc: Global,
-    files: &[SourceFile<'a>],
+    wanted: bool,
     sources: &[Source<'_>],
-    built: Built,
-) -> Result<Answer<Told<'a>>, AllocError>
-    ensures { IfOk result (λ answer. answer_of answer ≡ built_answer false files.now sources.now built) }
+    built: &Built,
+) -> Result<Vec<u8>, AllocError>
+    ensures { IfOk result (λ text. listing_files wanted text.items ≡ listing_files wanted (listing built.now sources.now)) }
 {
-    let printed = grown_lines(alloc, files, &built)?;
-    let made = program(alloc, built.sizes, built.cert, built.com)?;
-    Ok(Answer::done(made, printed))
+    if wanted {
+        listing(alloc, built, sources)
+    } else {
+        Ok(Vec::new(alloc))
+    }
 }
 
-/// Answers the files of a program, with its listing and its labels.
-fn listed<'a>(
-    alloc: Global,
-    files: &[SourceFile<'a>],
-    sources: &[Source<'_>],
-    built: Built,
-) -> Result<Answer<Told<'a>>, AllocError>
-    ensures { IfOk result (λ answer. answer_of answer ≡ built_answer true files.now sources.now built) }
+/// Answers the labels of a program as they are beside its listing, if that is wanted.
+fn labels_of(alloc: Global, wanted: bool, built: &Built) -> Result<Vec<u8>, AllocError>
+    ensures { (form : Option SymbolForm) (labels : List Symbol) → IfOk result (λ text. symbol_files wanted form text.items labels ≡ symbol_files wanted form (symbols built.now) labels) }
 {
-    let printed = grown_lines(alloc, files, &built)?;
-    let lines = listing(alloc, &built, sources)?;
-    let labels = symbols(alloc, &built)?;
-    let mut made = program(alloc, built.sizes, built.cert, built.com)?;
-    made.push(NewFile {
-        kind: Kind::Listing,
-        bytes: lines,
-    })?;
-    made.push(NewFile {
-        kind: Kind::Symbols,
-        bytes: labels,
-    })?;
-    Ok(Answer::done(made, printed))
+    if wanted {
+        symbols(alloc, built)
+    } else {
+        Ok(Vec::new(alloc))
+    }
 }
 
-/// Answers the files of a program, with its listing and its labels if `list` is true.
+/// Answers the text of the map of a program that was built of these sources, if it is wanted.
+fn map_text_of(
+    alloc: Global,
+    wanted: bool,
+    grow: bool,
+    behind: &[Source<'_>],
+    built: &Built,
+) -> Result<Vec<u8>, AllocError>
+    requires { IsBuilt grow behind.now (Ok built.now) }
+    ensures { IfOk result (λ text. IsMapText wanted grow behind.now built.now text.items) }
+{
+    if wanted {
+        let map = map_of_built(alloc, behind, built)?;
+        map_text(alloc, &map)
+    } else {
+        Ok(Vec::new(alloc))
+    }
+}
+
+/// Answers the files of a program whose lines have the numbers of their own sources, given the text of its map.
 fn written<'a>(
     alloc: Global,
     files: &[SourceFile<'a>],
     sources: &[Source<'_>],
     built: Built,
-    list: bool,
+    products: Products,
+    mapped: Vec<u8>,
 ) -> Result<Answer<Told<'a>>, AllocError>
-    ensures { IfOk result (λ answer. answer_of answer ≡ built_answer list files.now sources.now built) }
+    ensures { IfOk result (λ answer. answer_of answer ≡ built_answer products files.now sources.now built mapped.items) }
 {
-    if list {
-        listed(alloc, files, sources, built)
-    } else {
-        plain(alloc, files, sources, built)
-    }
+    let printed = grown_lines(alloc, files, &built)?;
+    let lines = listing_of(alloc, products.list, sources, &built)?;
+    let labels = labels_of(alloc, products.list, &built)?;
+    let mut made = program(alloc, built.sizes, built.cert, built.com)?;
+    put_listing(&mut made, products.list, lines)?;
+    put_symbols(
+        alloc,
+        &mut made,
+        products.list,
+        products.symbols,
+        labels,
+        &built.symbols,
+    )?;
+    put_map(&mut made, products.map, mapped)?;
+    Ok(Answer::done(made, printed))
 }
 
 /// Answers what is to be done, given the result of building.
@@ -152,16 +178,20 @@ fn answered<'a>(
     alloc: Global,
     front: Front<'a>,
     files: &[SourceFile<'a>],
+    behind: &[Source<'_>],
     sources: &[Source<'_>],
     building: Result<Built, BuildFault>,
-    list: bool,
+    wanted: Wanted,
 ) -> Result<Answer<Told<'a>>, AllocError>
-    ensures { IfOk result (λ answer. IsAnswerOf front.entry list files.now sources.now building (answer_of answer)) }
+    requires { IsBuilt wanted.grow behind.now building }
+    ensures { IfOk result (λ answer. IsAnswerOf front.entry wanted.grow wanted.products files.now behind.now sources.now building (answer_of answer)) }
 {
     match building {
         Ok(built) => {
+            let products = wanted.products;
+            let mapped = map_text_of(alloc, products.map, wanted.grow, behind, &built)?;
             let own = with_own_lines(built, front);
-            let answer = written(alloc, files, sources, own, list)?;
+            let answer = written(alloc, files, sources, own, products, mapped)?;
             Ok(answer)
         }
         Err(BuildFault::Asm { source, fault }) => {
@@ -177,8 +207,8 @@ fn answered<'a>(
 pub struct Wanted {
     /// Whether a written `JR` may become a `JP`.
     pub grow: bool,
-    /// Whether a listing and the labels are made.
-    pub list: bool,
+    /// What is made besides the program.
+    pub products: Products,
     /// Whether warnings are made.
     pub warn: bool,
 }
@@ -220,14 +250,14 @@ fn built<'a>(
     wanted: Wanted,
 ) -> Result<Made<'a>, AllocError>
     requires { AllZip (IsBehind front) files.now behind.now }
-    ensures built { IfOk result (λ made. IsBuild front.entry files.now wanted.grow wanted.list (answer_of made.answer) made.jumps) }
+    ensures built { IfOk result (λ made. IsBuild front.entry files.now wanted.grow wanted.products (answer_of made.answer) made.jumps) }
     ensures warned { IfOk result (λ made. AreWarnings wanted.warn front.entry files.now wanted.grow made.jumps made.warnings.items) }
 {
     let sources = sources_of(alloc, files)?;
     let building = build_with(alloc, behind, wanted.grow);
     let jumps = jumps_of(&building);
     let warnings = warnings_of(alloc, front, files, &building, wanted)?;
-    let answer = answered(alloc, front, files, &sources, building, wanted.list)?;
+    let answer = answered(alloc, front, files, behind, &sources, building, wanted)?;
     Ok(Made {
         answer,
         jumps,
@@ -244,11 +274,11 @@ fn built_behind<'a>(
     wanted: Wanted,
 ) -> Result<Made<'a>, AllocError>
     requires { before.now ≡ front_text front }
-    ensures built { IfOk result (λ made. IsBuild front.entry files.now wanted.grow wanted.list (answer_of made.answer) made.jumps) }
+    ensures built { IfOk result (λ made. IsBuild front.entry files.now wanted.grow wanted.products (answer_of made.answer) made.jumps) }
     ensures warned { IfOk result (λ made. AreWarnings wanted.warn front.entry files.now wanted.grow made.jumps made.warnings.items) }
 {
     let texts = texts_behind(alloc, before, files)?;
-    let behind = sources_behind(alloc, files, &texts)?;
+    let behind = sources_behind(alloc, front, files, &texts)?;
     built(alloc, front, files, &behind, wanted)
 }
 
@@ -271,7 +301,7 @@ fn made_behind<'a>(
     files: &[SourceFile<'a>],
     wanted: Wanted,
 ) -> Result<Made<'a>, AllocError>
-    ensures made { IfOk result (λ made. UnlessFaulty front.entry (λ said. IsRefusal said (answer_of made.answer) made.jumps) (IsBuild front.entry files.now wanted.grow wanted.list (answer_of made.answer) made.jumps)) }
+    ensures made { IfOk result (λ made. UnlessFaulty front.entry (λ said. IsRefusal said (answer_of made.answer) made.jumps) (IsBuild front.entry files.now wanted.grow wanted.products (answer_of made.answer) made.jumps)) }
     ensures warned { IfOk result (λ made. AreWarnings wanted.warn front.entry files.now wanted.grow made.jumps made.warnings.items) }
 {
     let before = front_text(alloc, front)?;
@@ -285,8 +315,8 @@ fn made_behind<'a>(
     built_behind(alloc, front, &before, files, wanted)
 }
 
-/// Builds the program of sources after a front, in the order of the sources, and answers it with its sizes file and certificate; and if
-/// they are wanted, with its listing and its labels. If a written `JR` may become a `JP`, a line `grown PATH(LINE)` is printed for each that
+/// Builds the program of sources after a front, in the order of the sources, and answers it with its sizes file and certificate; and with
+/// its [`Products`], if they are wanted. If a written `JR` may become a `JP`, a line `grown PATH(LINE)` is printed for each that
 /// did, in their order. [`Made`] also has how many jumps are short and long, and if they are wanted, the warnings.
 ///
 /// A front that has an error is refused with its first one. The listing shows the sources without the front, and every line is named by
@@ -300,7 +330,7 @@ pub fn build<'a>(
     files: &[SourceFile<'a>],
     wanted: Wanted,
 ) -> Made<'a>
-    ensures made { IsMade front.entry files.now wanted.grow wanted.list (answer_of result.answer) result.jumps }
+    ensures made { IsMade front.entry files.now wanted.grow wanted.products (answer_of result.answer) result.jumps }
     ensures warned { AreWarnings wanted.warn front.entry files.now wanted.grow result.jumps result.warnings.items }
 {
     match made_behind(alloc, front, files, wanted) {

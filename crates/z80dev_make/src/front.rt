@@ -3,8 +3,7 @@
 ghost use Rattle.std.specs.Prelude.{◌≡◌, ◌++◌, ◌≤◌, IfOk, OnOk, length};
 ghost use Rattle.std.specs.List.{flat_map};
 ghost use Rattle.asm_macro.specs.Texts.{source_part};
-ghost use Rattle.z80dev_make.specs.Front.{define_line, defined_name, defined_value, front_lines, front_text, line_count, end_of_line, name_length, with_end};
-ghost use Rattle.z80dev_make.specs.Private.Steps.{Counts};
+ghost use Rattle.z80dev_make.specs.Front.{CountsLines, define_line, defined_name, defined_value, end_of_line, front_lines, front_text, line_count, name_length, with_end};
 
 use crate::answer::SourceFile;
 use asm_macro::source_part;
@@ -84,7 +83,7 @@ fn put_files(text: &mut Vec<u8>, files: &[SourceFile<'_>]) -> Result<(), AllocEr
 }
 
 /// Answers the text of a front.
-pub(crate) fn front_text(alloc: Global, front: Front<'_>) -> Result<Vec<u8>, AllocError>
+pub fn front_text(alloc: Global, front: Front<'_>) -> Result<Vec<u8>, AllocError>
     ensures { IfOk result (λ text. text.items ≡ front_text front.entry) }
 {
     let mut text = Vec::new(alloc);
@@ -111,8 +110,8 @@ pub(crate) fn line_count(file: &SourceFile<'_>) -> usize
 }
 
 /// Answers how many lines a front has, or the highest number of a line if that is less.
-pub(crate) fn front_lines(front: Front<'_>) -> usize
-    ensures { Counts result (front_lines front.entry) }
+pub fn front_lines(front: Front<'_>) -> usize
+    ensures { CountsLines result (front_lines front.entry) }
 {
     let mut lines = front.defines.len();
     for file in front.files {

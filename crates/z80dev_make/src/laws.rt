@@ -13,7 +13,9 @@ ghost use Rattle.zlink.specs.Outcomes.{AreSame, linked_outcome};
 ghost use Rattle.zlink.specs.Types.{AsmFault};
 ghost use Rattle.z80dev_finish.specs.Answers.{Answer, MemoryAside};
 ghost use Rattle.z80dev_finish.specs.declared.answer.Kind.TheVariants as kind;
-ghost use Rattle.z80dev_make.specs.Answers.{HasKinds, program_kinds};
+ghost use Rattle.z80dev_make.specs.Answers.{HasKinds};
+ghost use Rattle.z80dev_make.specs.Products.{program_kinds};
+ghost use Rattle.z80dev_make.specs.declared.products.Products.{Products};
 ghost use Rattle.z80dev_make.specs.Asm.{IsAsm};
 ghost use Rattle.z80dev_make.specs.Build.{IsMade};
 ghost use Rattle.z80dev_make.specs.Faults.Refusals.{of_source, program_refusal_text};
@@ -56,6 +58,6 @@ pub fn no_front()
 /// those of a program, in their order.
 pub fn written_kinds()
     ensures asm { (front : Front) (file : SourceFile) (grow : Bool) (answer : Answer) → MemoryAside (IsAsm front file grow) answer → HasKinds (kind.Object ∷ []) answer }
-    ensures link { (objects : List (List ℕ)) (answer : Answer) → MemoryAside (IsLink objects) answer → HasKinds (program_kinds false) answer }
-    ensures build { (front : Front) (files : List SourceFile) (grow list : Bool) (answer : Answer) (jumps : Option Jumps) → IsMade front files grow list answer jumps → HasKinds (program_kinds list) answer }
+    ensures link { (products : Products) (objects : List (List ℕ)) (answer : Answer) → products.list ≡ false → MemoryAside (IsLink products objects) answer → HasKinds (program_kinds products) answer }
+    ensures build { (front : Front) (files : List SourceFile) (grow : Bool) (products : Products) (answer : Answer) (jumps : Option Jumps) → IsMade front files grow products answer jumps → HasKinds (program_kinds products) answer }
 {}

@@ -10,16 +10,16 @@ use crate::faults::{Refusal, Told};
 use crate::front::{Front, front_lines, line_count};
 use zlink::{AsmFault, MacroFault, Why};
 
-/// A line of a file.
+/// A line by its own file, and by the number that it has there.
 #[derive(Clone, Copy)]
-struct Place<'a> {
-    path: &'a str,
-    line: u32,
+pub struct Located<'a> {
+    pub path: &'a str,
+    pub line: u32,
 }
 
 /// Answers the path and the own number of a line of shared files, one after the other; if they have fewer lines, it is a line of the source
 /// with this path.
-fn line_in<'a>(files: &[SourceFile<'a>], path: &'a str, line: u32) -> Place<'a>
+fn line_in<'a>(files: &[SourceFile<'a>], path: &'a str, line: u32) -> Located<'a>
     ensures { (result.path.now, result.line) ≡ line_in files.now path.now line }
 {
     let mut line = line;
@@ -27,15 +27,16 @@ fn line_in<'a>(files: &[SourceFile<'a>], path: &'a str, line: u32) -> Place<'a>
         let count = line_count(file);
         if line as usize <= count {
             let path = file.path;
-            return Place { path, line };
+            return Located { path, line };
         }
         line -= count as u32;
     }
-    Place { path, line }
+    Located { path, line }
 }
 
-/// Answers the place of a line after the lines of words.
-fn place_of<'a>(front: Front<'a>, path: &'a str, line: u32) -> Place<'a>
+/// Answers in which file a line is, and its number there, given its number in a front with the source of this path after it. It is no line of
+/// the front's words.
+pub fn locate<'a>(front: Front<'a>, path: &'a str, line: u32) -> Located<'a>
     ensures { (result.path.now, result.line) ≡ line_in front.entry.files.now path.now (line - length front.entry.defines.now) }
 {
     let words = u32::try_from(front.defines.len()).unwrap_or(u32::MAX);
@@ -54,7 +55,7 @@ pub(crate) fn told_at<'a>(front: Front<'a>, path: &'a str, fault: AsmFault) -> T
             refusal,
         };
     }
-    let Place { path, line } = place_of(front, path, line);
+    let Located { path, line } = locate(front, path, line);
     let refusal = Refusal::of_source(AsmFault { line, why });
     Told { path, refusal }
 }
@@ -89,7 +90,7 @@ pub(crate) fn told_behind<'a>(front: Front<'a>, path: &'a str, fault: AsmFault) 
 pub(crate) fn unshared_at<'a>(front: Front<'a>, line: u32) -> Told<'a>
     ensures { told_text result ≡ unshared_text front.entry line }
 {
-    let Place { path, line } = place_of(front, "", line);
+    let Located { path, line } = locate(front, "", line);
     let refusal = Refusal::NotShared(line);
     Told { path, refusal }
 }

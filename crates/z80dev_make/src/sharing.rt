@@ -17,8 +17,8 @@ use asm_module::{MacroFault, SourceLine, Why, assemble_with, read_source};
 use asm_spell::{Body, Line};
 use std::alloc::{AllocError, Global};
 
-/// Whether a shared file may hold a line: EQU, EXTRN without a label, or nothing.
-fn is_shared(line: &Line) -> bool
+/// Whether a shared file may have a line of its expansion: EQU, EXTRN without a label, or nothing.
+pub fn is_shared(line: &Line) -> bool
     ensures { result ≡ is_shared (line_of line.now) }
 {
     matches!(
@@ -74,8 +74,12 @@ fn first_fault<'a>(
     }
 }
 
-/// Answers what is wrong with a front by itself, given its text.
-pub(crate) fn fault_of_front<'a>(
+/// Answers what is wrong with a front by itself, given its text: its first line that a shared file may not have; otherwise its first error.
+///
+/// # Errors
+///
+/// [`AllocError`] if memory ran out.
+pub fn fault_of_front<'a>(
     alloc: Global,
     front: Front<'a>,
     text: &[u8],

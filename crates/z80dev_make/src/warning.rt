@@ -230,31 +230,22 @@ fn told_joined(
     all_told(alloc, &sources, &found)
 }
 
-/// Answers the lines of the modules of sources.
-fn lines_of(alloc: Global, lines: &[Lines]) -> Result<Vec<Vec<u32>>, AllocError>
-    ensures { IfOk result (λ all. map (λ own. own.items) all.items ≡ map (λ l. l.each.items) lines.now) }
-{
-    let mut all = Vec::with_capacity(alloc, lines.len())?;
-    for module in lines {
-        all.push(module.each.to_vec(alloc)?)?;
-    }
-    Ok(all)
-}
-
-/// Answers all warnings about the jumps of a program that was built of these sources, in the order of
-/// [`find_warnings`](jump_warnings::find_warnings). There is none if the modules have an error together, so that there is no program.
+/// Answers all warnings about the jumps of a program that was built of these sources after a front, in the order of
+/// [`find_warnings`](jump_warnings::find_warnings). Lines have the numbers that they have in their own sources. There is no warning if the
+/// modules have an error together, so that there is no program.
 ///
 /// # Errors
 ///
 /// [`AllocError`] if memory ran out.
 pub fn jump_warnings(
     alloc: Global,
+    front: Front<'_>,
     files: &[SourceFile<'_>],
     built: &Built,
 ) -> Result<Vec<JumpWarning>, AllocError>
     requires { All IsModule (map module_of built.now.modules.items) }
-    ensures { IfOk result (λ all. AreJumpWarnings files.now built.now all.items) }
+    ensures { IfOk result (λ all. AreJumpWarnings front.entry files.now built.now all.items) }
 {
-    let lines = lines_of(alloc, &built.lines)?;
+    let lines = all_own_lines(alloc, front, &built.lines)?;
     told_joined(alloc, files, &built.modules, &lines)
 }

@@ -1,5 +1,4 @@
 mod Read
 mod Told
-mod Numbered
 mod Traced
 mod Totals

@@ -7,7 +7,10 @@ use Rattle.cpm_run.specs.declared.recording.Wish.{Wish}
 use Rattle.cpm_console.specs.Dialog.{Dialog}
 use Rattle.cpm_disk.specs.Calls.{Mounted}
 use Rattle.cpm_disk.specs.Image.{Image}
+use Rattle.cpm_run.specs.Play.{IsPlayed}
 use Rattle.cpm_run.specs.Run.{IsRun}
+use Rattle.cpm_run.specs.declared.arriving.Arrival.{Arrival}
+use Rattle.cpm_run.specs.declared.arriving.PlayEnd.{PlayEnd}
 use Rattle.cpm_run.specs.declared.ending.Why.{Why}
 
 module _ (faults : Image → ℕ) (disk : Mounted Image) (steps : ℕ) (end : Why) (turns pc : ℕ) (left : Mounted Image) (kept : Dialog) where
@@ -25,3 +28,11 @@ module _ (faults : Image → ℕ) (disk : Mounted Image) (steps : ℕ) (wish : W
   -- the same for a traced run
   pub traced_as_read : (file program : List ℕ) (words meant : List (List ℕ)) (console given : Dialog) → file ≡ program → words ≡ meant → console ≡ given → Traced file words console → Traced program meant given
   traced_as_read file program words meant console given d e f run = subst (λ c. Traced program meant c) f (subst (λ w. Traced program w console) e (subst (λ p. Traced p words console) d run))
+
+module _ (faults : Image → ℕ) (disk : Mounted Image) (steps : ℕ) (before : Option (List ℕ)) (end : PlayEnd) (turns pc : ℕ) (left : Mounted Image) (arrivals : List Arrival) (after : Option (List ℕ)) where
+  abbrev Played : List ℕ → List (List ℕ) → Type 0
+  Played file words = IsPlayed (λ sectors. sectors) faults file words disk steps before end turns pc left arrivals after
+
+  -- the same for a session at a keyboard
+  pub played_as_read : (file program : List ℕ) (words meant : List (List ℕ)) → file ≡ program → words ≡ meant → Played file words → Played program meant
+  played_as_read file program words meant d e session = subst (λ w. Played program w) e (subst (λ p. Played p words) d session)

@@ -8,3 +8,4 @@ pub mod Registers
 pub mod Reports
 pub mod Profile
 pub mod Coverage
+pub mod Desk

@@ -1,16 +1,21 @@
 -- What the command `run` does with the bytes of its files and of standard input.
-use Rattle.std.specs.Prelude.{◌≡◌, ℕ, List, Ok, Option, map}
-use Rattle.std.specs.List.{concat}
+use Rattle.std.specs.Prelude.{◌≡◌, ◌++◌, ◌∷◌, [], ℕ, List, Ok, Option, codes, decimal, length, map}
+use Rattle.std.specs.List.{concat, flat_map}
+use Rattle.hex.specs.Hex.{encode_upper}
 use Rattle.streams.specs.Stream.{Stream}
 use Rattle.cpm_console.specs.Dialog.{Dialog, dialog_of}
 use Rattle.cpm_disk.specs.Calls.{Mounted}
 use Rattle.cpm_disk.specs.Image.{Image}
 use Rattle.cpm_run.specs.declared.tracing.Left.{Left}
+use Rattle.cpm_run.specs.Play.{IsPlayed}
 use Rattle.cpm_run.specs.Run.{IsRun}
+use Rattle.cpm_run.specs.declared.arriving.Arrival.{Arrival}
+use Rattle.cpm_run.specs.declared.arriving.PlayEnd.{PlayEnd}
 use Rattle.cpm_run.specs.Walks.{IsTraced}
 use Rattle.cpm_run.specs.declared.recording.Record.{Record}
 use Rattle.cpm_run.specs.declared.recording.Wish.{Wish}
 use Rattle.cpm_run.specs.declared.ending.Why.{Why}
+use Rattle.debugger.specs.Conversation.{DebugsTo}
 use Rattle.z80dev_disk.specs.Disks.{IsMounted}
 use Rattle.z80dev_run.specs.Input.{typed}
 use Rattle.z80dev_run.specs.declared.running.Ready.{Ready}
@@ -35,3 +40,22 @@ abbrev pub IsTracedRan : List ℕ → List (List ℕ) → List ℕ → List ℕ 
 IsTracedRan file words image input before steps wish end turns state kept =
     (disk : Mounted Image) × IsMounted image (Ok disk)
     × IsTraced (λ sectors. sectors) (λ sectors. 0) (λ dialog. dialog) file words disk (dialog_of (typed input) before.bytes before.failures) steps wish end turns state kept
+
+-- The program was debugged with its words on the disk with this image, with what is typed and with these labels; and the answers were printed.
+abbrev pub IsDebuggedRun : List ℕ → List (List ℕ) → List ℕ → List ℕ → List (ℕ × List ℕ) → List ℕ → Stream → Stream → Type 0
+IsDebuggedRun file words image input labels listing before after =
+    (disk : Mounted Image) × IsMounted image (Ok disk) × DebugsTo file words disk (typed input) (record { labels = labels; size = length file }) listing before after
+
+-- The program was played with its words on the disk with this image, at a keyboard and a screen: why the session ended, after how many steps and
+-- with which PC, the image of the disk then, and the bytes that came. What was shown is known before and after.
+abbrev pub IsPlayedRan : List ℕ → List (List ℕ) → List ℕ → ℕ → Option (List ℕ) → PlayEnd → ℕ → ℕ → List ℕ → List Arrival → Option (List ℕ) → Type 0
+IsPlayedRan file words image steps before end turns pc left arrivals after =
+    (disk : Mounted Image) × (then : Mounted Image) × IsMounted image (Ok disk)
+    × IsPlayed (λ sectors. sectors) (λ sectors. 0) file words disk steps before end turns pc then arrivals after × (left ≡ concat then.device)
+
+-- a line for each byte that came: the number of steps before it, and the byte in hexadecimal
+abbrev pub arrival_line : Arrival → List ℕ
+arrival_line arrival = decimal arrival.turn ++ codes " " ++ encode_upper (arrival.byte ∷ []) ++ codes "\n"
+
+abbrev pub record_text : List Arrival → List ℕ
+record_text arrivals = flat_map arrival_line arrivals

@@ -10,9 +10,11 @@ use Rattle.cpm_bdos.specs.declared.function.SearchCall.TheVariants as searching
 use Rattle.cpm_run.specs.Turns.{Call, Entry, Place, Program, is_finished, place_at_pc}
 use Rattle.cpm_run.specs.declared.recording.TraceStep.{TraceStep}
 use Rattle.cpm_run.specs.declared.tracing.Left.{Left}
+use Rattle.z80dev_run.specs.declared.registers.WayOut.{WayOut}
+use Rattle.z80dev_run.specs.declared.registers.WayOut.TheVariants as way
 use Rattle.z80dev_run.specs.Labelled.{Known, is_in_program, nearest_label, nearest_text}
-use Rattle.debug_text.specs.Columns.{blanks, word_text}
-use Rattle.debug_text.specs.Registers.{registers_text}
+use Rattle.debugger.specs.Printing.Columns.{blanks, word_text}
+use Rattle.debugger.specs.Printing.Registers.{registers_text}
 
 -- a word in memory, and four of them
 abbrev pub word_there : List ℕ → ℕ → List ℕ
@@ -59,31 +61,49 @@ fcb_line cpu memory =
 abbrev pub step_from_end : ℕ → List TraceStep → Option TraceStep
 step_from_end k steps = if nat_lt k (length steps) then slice_get steps (length steps - k - 1) else None
 
--- The address from which the program came to its end: that of the last step, or of the one before it if the last is the jump at address 0.
-abbrev pub came_from : Option TraceStep → Option TraceStep → Option ℕ
-came_from None before = None
-came_from (Some last) None = Some last.before.pc
-came_from (Some last) (Some before) = Some (if last.before.pc == 0 then before.before.pc else last.before.pc)
+-- From where the system was entered: the address of this step, or of the one before it if this one is the jump that CP/M has at `entry`.
+abbrev pub came_from : ℕ → Option TraceStep → Option TraceStep → Option ℕ
+came_from entry None before = None
+came_from entry (Some step) None = if step.before.pc == entry then None else Some step.before.pc
+came_from entry (Some step) (Some before) = Some (if step.before.pc == entry then before.before.pc else step.before.pc)
+
+-- whether a step is system call 0, which ends a program
+abbrev pub is_reset : Option TraceStep → Bool
+is_reset None = false
+is_reset (Some step) = (step.before.pc == 0xFE06) && (step.before.main.c == 0)
+
+-- the same way out, with the address that it was taken from, if that is known
+abbrev pub way_from : WayOut → Option ℕ → Option (WayOut × ℕ)
+way_from way None = None
+way_from way (Some address) = Some (way, address)
+
+-- How a program came to its end, and from which address: by a jump to the cold or the warm start, which may lead over the jump at 0000H; or by
+-- system call 0, which may be made over the jump at 0005H.
+abbrev pub way_out : Cpu → List TraceStep → Option (WayOut × ℕ)
+way_out cpu steps =
+    if is_finished cpu.pc then way_from way.Jump (came_from 0x0000 (step_from_end 0 steps) (step_from_end 1 steps))
+    else if is_reset (step_from_end 0 steps) then way_from way.SystemCall (came_from 0x0005 (step_from_end 1 steps) (step_from_end 2 steps)) else None
 
 -- whether there is such an address, and none of the program's bytes is there
-abbrev pub is_outside : Known → Option ℕ → Bool
+abbrev pub is_outside : Known → Option (WayOut × ℕ) → Bool
 is_outside known None = false
-is_outside known (Some address) = not (is_in_program known.size address)
+is_outside known (Some (way, address)) = not (is_in_program known.size address)
 
--- The program is lost: it has finished, but by a jump from outside of its bytes.
+-- The program is lost: it came to its end from outside of its bytes.
 abbrev pub is_lost : Known → Cpu → List TraceStep → Bool
-is_lost known cpu steps = is_finished cpu.pc && is_outside known (came_from (step_from_end 0 steps) (step_from_end 1 steps))
+is_lost known cpu steps = is_outside known (way_out cpu steps)
 
-abbrev pub outside_text : Known → Option ℕ → List ℕ
+abbrev pub way_text : WayOut → List ℕ
+way_text way.Jump = codes "a jump"
+way_text way.SystemCall = codes "system call 0"
+
+abbrev pub outside_text : Known → Option (WayOut × ℕ) → List ℕ
 outside_text known None = []
-outside_text known (Some address) = if is_in_program known.size address then [] else codes "ended by a jump from " ++ word_text address ++ codes ", outside the program\n"
-
--- the line for a program that is lost
-abbrev pub ended_line : Known → Cpu → List TraceStep → List ℕ
-ended_line known cpu steps = if is_finished cpu.pc then outside_text known (came_from (step_from_end 0 steps) (step_from_end 1 steps)) else []
+outside_text known (Some (way, address)) =
+    if is_in_program known.size address then [] else codes "ended by " ++ way_text way ++ codes " from " ++ word_text address ++ codes ", outside the program\n"
 
 -- The machine and the system at the end of a run whose last steps are known.
 abbrev pub machine_text : Known → Left → List TraceStep → List ℕ
 machine_text known left steps =
     registers_text left.cpu left.dma left.user ++ stack_line left.cpu left.memory ++ return_line (place_at_pc left.cpu.pc) known (word_at left.cpu.sp left.memory)
-    ++ fcb_line left.cpu left.memory ++ ended_line known left.cpu steps
+    ++ fcb_line left.cpu left.memory ++ outside_text known (way_out left.cpu steps)

@@ -1,12 +1,13 @@
 //! Debugs a program.
 
-ghost use Rattle.std.specs.Prelude.{◌≡◌, ◌≤◌, ℕ, List, false};
+ghost use Rattle.std.specs.Prelude.{◌≡◌, ◌≤◌, ℕ, IfOk, List, false, map};
 ghost use Rattle.debugger.specs.Conversation.{Debugs};
 ghost use Rattle.debugger.specs.declared.conversation.TheConstants.{MOST_READS};
-ghost use Rattle.z80dev_run.specs.Program.{IsReadyToRun};
+ghost use Rattle.debugger.specs.Labelled.{symbol_parts};
+ghost use Rattle.z80dev_run.specs.Program.{IsDebuggedRun, IsReadyToRun};
 
 use crate::running::Ready;
-use debugger::{DebugFault, Labels, Program, Symbol};
+use debugger::{DebugFault, Program, Symbol};
 use std::alloc::Global;
 use streams::{Input, Sink};
 
@@ -30,6 +31,8 @@ impl Ready<'_, '_> {
         ensures debugs { (program : List ℕ) (words : List (List ℕ)) (image input : List ℕ) → IsReadyToRun program words image input self.entry
             → Debugs program words (O.stream output.old) (O.stream output.new) (I.failed commands.new) (I.reads commands.new) result }
         ensures reads { I.reads commands.new ≤ MOST_READS }
+        ensures debugged { (program : List ℕ) (words : List (List ℕ)) (image input : List ℕ) → IsReadyToRun program words image input self.entry
+            → IfOk result (λ _. IsDebuggedRun program words image input (map symbol_parts symbols.now) listing.now (O.stream output.old) (O.stream output.new)) }
     {
         let Ready {
             program: file,
@@ -37,10 +40,6 @@ impl Ready<'_, '_> {
             disk,
             typed,
         } = self;
-        let labels = Labels {
-            symbols,
-            program_len: file.len(),
-        };
         let program = Program {
             file,
             words: &words,
@@ -48,6 +47,6 @@ impl Ready<'_, '_> {
             typed,
             listing,
         };
-        debugger::debug(alloc, program, labels, commands, output)
+        debugger::debug(alloc, program, symbols, commands, output)
     }
 }

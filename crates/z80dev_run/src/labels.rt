@@ -1,85 +1,40 @@
-//! The labels of a program by their addresses.
+//! The labels of a program, by the labels of its file.
 
-ghost use Rattle.std.specs.Prelude.{◌≡◌, ◌<◌, ℕ, suc, IfOk, length, map, slice_index};
+ghost use Rattle.std.specs.Prelude.{◌≡◌, IfOk, map};
 ghost use Rattle.std.specs.Option.{option_map};
+ghost use Rattle.debugger.specs.Labelled.{is_in_program, nearest_label, symbol_parts};
 ghost use Rattle.disassembler.specs.Reading.{label_parts};
-ghost use Rattle.z80dev_run.specs.Labelled.{is_in_program, nearest_label, last_at, last_below, parts_of};
 
-use common::FIRST_PLACE;
+use debugger::Symbol;
 use disassembler::Label;
 use std::alloc::{AllocError, Global};
 use std::marker::Model;
 
-/// How many addresses there are.
-const ADDRESSES: usize = 65_536;
-
-/// A label of the program.
-#[derive(Drop)]
-struct Named {
-    address: u16,
-    name: Vec<u8>,
-}
-
 /// The labels of a program, by their addresses, and the number of its bytes.
 #[derive(Drop)]
 pub struct Labels {
-    labels: Vec<Named>,
-    /// For each address the number of its label, from 1, or 0 if it has none.
-    numbers: Vec<usize>,
-    size: usize,
+    found: debugger::Labels,
 }
 
 impl Model for Labels {
-    ghost use Rattle.std.specs.Prelude.{map};
-    ghost use Rattle.z80dev_run.specs.Labelled.{AreNumbers, Known, parts_of};
+    ghost use Rattle.debugger.specs.Labelled.{Known};
 
     ghost Value = { Known };
 
-    ghost view = { λ l. record { labels = map parts_of l.labels.items; size = l.size } };
-
-    ghost invariant = { λ l. AreNumbers (map parts_of l.labels.items) l.numbers.items };
+    ghost view = { λ l. l.found };
 }
 
-/// Copies labels.
-fn owned(alloc: Global, labels: &[Label<'_>]) -> Result<Vec<Named>, AllocError>
-    ensures { IfOk result (λ named. map parts_of named.items ≡ map label_parts labels.now) }
+/// The same labels for a debugger.
+fn symbols_of<'a>(alloc: Global, labels: &[Label<'a>]) -> Result<Vec<Symbol<'a>>, AllocError>
+    ensures { IfOk result (λ symbols. map symbol_parts symbols.items ≡ map label_parts labels.now) }
 {
-    let mut named = Vec::with_capacity(alloc, labels.len())?;
+    let mut symbols = Vec::with_capacity(alloc, labels.len())?;
     for label in labels {
         let address = label.address;
-        let name = Vec::from_slice(alloc, label.name)?;
-        named.push(Named { address, name })?;
+        let name = label.name;
+        symbols.push(Symbol { address, name })?;
     }
-    Ok(named)
-}
-
-/// For each address the number of the last label there, from 1, or 0 if there is none.
-fn last_numbers(alloc: Global, labels: &[Named]) -> Result<Vec<usize>, AllocError>
-    ensures size { IfOk result (λ numbers. length numbers.items ≡ ADDRESSES) }
-    ensures each { IfOk result (λ numbers. (address : ℕ) → address < ADDRESSES → slice_index numbers.items address ≡ last_at 0 0 (map parts_of labels.now) address) }
-{
-    let mut numbers = vec![in alloc; 0; ADDRESSES]?;
-    let mut number = 0;
-    let mut rest = labels;
-    while let Some((label, behind)) = rest.split_first() {
-        number += 1;
-        numbers[label.address as usize] = number;
-        rest = behind;
-    }
-    Ok(numbers)
-}
-
-/// Gives each address without a number that of the address below.
-fn fill(numbers: &mut [usize])
-    ensures { (address : ℕ) → address < length numbers.old → slice_index numbers.new address ≡ last_below (slice_index numbers.old) (suc address) }
-{
-    let mut last = 0;
-    for number in numbers.iter_mut() {
-        if *number == 0 {
-            *number = last;
-        }
-        last = *number;
-    }
+    Ok(symbols)
 }
 
 impl Labels {
@@ -87,13 +42,9 @@ impl Labels {
     pub fn new(alloc: Global, labels: &[Label<'_>], size: usize) -> Result<Labels, AllocError>
         ensures { IfOk result (λ known. known ≡ record { labels = map label_parts labels.now; size = size }) }
     {
-        let labels = owned(alloc, labels)?;
-        let mut numbers = last_numbers(alloc, &labels)?;
-        fill(&mut numbers);
+        let symbols = symbols_of(alloc, labels)?;
         Ok(Labels {
-            labels,
-            numbers,
-            size,
+            found: debugger::Labels::new(alloc, &symbols, size)?,
         })
     }
 
@@ -101,22 +52,13 @@ impl Labels {
     pub fn has(&self, address: u16) -> bool
         ensures { result ≡ is_in_program self.now.size address }
     {
-        let address = address as usize;
-        address >= FIRST_PLACE as usize && address - (FIRST_PLACE as usize) < self.size
+        self.found.has(address)
     }
 
     /// The label of an address of the program, and how many bytes after it the address is.
     pub fn find(&self, address: u16) -> Option<(&[u8], u16)>
         ensures { option_map (λ found. (found.0.now, found.1)) result ≡ nearest_label self.now address }
     {
-        if !self.has(address) {
-            return None;
-        }
-        let number = self.numbers[address as usize];
-        if number == 0 {
-            return None;
-        }
-        let label = self.labels.get(number - 1)?;
-        Some((&label.name, address.saturating_sub(label.address)))
+        self.found.find(address)
     }
 }

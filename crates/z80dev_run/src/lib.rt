@@ -3,11 +3,13 @@
 
 mod coverage;
 mod debugging;
+mod desk;
 mod ending;
 mod input;
 mod labels;
 pub mod laws;
 mod lines;
+mod playing;
 mod preparing;
 mod profile;
 mod registers;
@@ -16,11 +18,13 @@ mod running;
 mod stopped;
 
 pub use coverage::coverage_file;
-pub use cpm_run::{Left, Record, Stop, TraceStep, Why, Wish};
+pub use cpm_run::{Arrival, Left, PlayEnd, Record, Station, Stop, TraceStep, Why, Wish};
 pub use debugger::{Broken, DebugFault, StartFault, Symbol};
+pub use desk::{Desk, Keys, MOST_LISTENS};
 pub use ending::conclude;
 pub use labels::Labels;
 pub use lines::trace_lines;
+pub use playing::{PlayedRan, record_file};
 pub use preparing::ready;
 pub use profile::profile_file;
 pub use registers::{is_lost, machine_text};

@@ -3,14 +3,14 @@
 ghost use Rattle.std.specs.Prelude.{◌≡◌, ◌++◌, IfOk, OnOk, map, option_copied};
 ghost use Rattle.cpm_run.specs.Turns.{place_at_pc};
 ghost use Rattle.z80_cpu.specs.State.{word_at};
-ghost use Rattle.z80dev_run.specs.Registers.{came_from, ended_line, fcb_line, four_words, is_lost, is_outside, machine_text, name_byte, name_text, outside_text, return_line, return_text, stack_line, step_from_end, takes_fcb, word_there};
+ghost use Rattle.z80dev_run.specs.Registers.{came_from, fcb_line, four_words, is_lost, is_reset, machine_text, name_byte, name_text, outside_text, return_line, return_text, stack_line, step_from_end, takes_fcb, way_from, way_out, way_text, word_there};
 
 use crate::labels::Labels;
 use crate::lines::label_of;
 use cpm_bdos::{Function, SearchCall};
 use cpm_fcb::Fcb;
 use cpm_run::{BDOS, Left, TraceStep, bios_entry, is_finished};
-use debug_text::{put_blanks, put_registers, put_word};
+use debugger::{put_blanks, put_registers, put_word};
 use std::alloc::{AllocError, Global};
 use std::collections::VecDeque;
 use z80_cpu::{Cpu, Memory};
@@ -171,81 +171,113 @@ fn step_from_end(steps: &VecDeque<TraceStep>, distance: usize) -> Option<&TraceS
     steps.get(len - distance - 1)
 }
 
-/// The address from which a program came to its end: that of its last step, or of the one before it if the last is the jump at address 0.
-fn came_from(last: Option<&TraceStep>, before: Option<&TraceStep>) -> Option<u16>
-    ensures { result ≡ came_from (option_copied last.entry) (option_copied before.entry) }
+/// From where the system was entered: the address of this step, or of the one before it if this one is the jump that CP/M has at `entry`.
+fn came_from(entry: u16, step: Option<&TraceStep>, before: Option<&TraceStep>) -> Option<u16>
+    ensures { result ≡ came_from entry (option_copied step.entry) (option_copied before.entry) }
 {
-    let last = last?.before.pc;
+    let address = step?.before.pc;
+    if address != entry {
+        return Some(address);
+    }
     match before {
-        Some(step) => {
-            if last == 0 {
-                Some(step.before.pc)
-            } else {
-                Some(last)
-            }
-        }
-        None => Some(last),
+        Some(step) => Some(step.before.pc),
+        None => None,
     }
 }
 
-/// Whether there is such an address, and none of the program's bytes is there.
-fn is_outside(labels: &Labels, address: Option<u16>) -> bool
-    ensures { result ≡ is_outside labels.now address }
+/// Whether a step is system call 0, which ends a program.
+fn is_reset(step: Option<&TraceStep>) -> bool
+    ensures { result ≡ is_reset (option_copied step.entry) }
 {
-    match address {
-        Some(address) => !labels.has(address),
+    match step {
+        Some(step) => step.before.pc == BDOS && step.before.main.c == 0,
         None => false,
     }
 }
 
-/// Whether a program is lost: it has finished, but by a jump from outside of its bytes. `last` has the last two steps at least.
+/// How a program came to its end.
+#[derive(Clone, Copy)]
+enum WayOut {
+    /// By a jump to the cold or the warm start.
+    Jump,
+    /// By system call 0.
+    SystemCall,
+}
+
+/// A way out with the address that it was taken from, if that is known.
+fn way_from(way: WayOut, address: Option<u16>) -> Option<(WayOut, u16)>
+    ensures { result ≡ way_from way address }
+{
+    match address {
+        Some(address) => Some((way, address)),
+        None => None,
+    }
+}
+
+/// How a program came to its end, and from which address. `last` has the last three steps at least; with fewer, the address is not known
+/// for a call over the jump at 0005H.
+fn way_out(cpu: &Cpu, last: &VecDeque<TraceStep>) -> Option<(WayOut, u16)>
+    ensures { result ≡ way_out cpu.now last.now.items }
+{
+    let step = step_from_end(last, 0);
+    let before = step_from_end(last, 1);
+    if is_finished(cpu.pc) {
+        way_from(WayOut::Jump, came_from(0x0000, step, before))
+    } else if is_reset(step) {
+        way_from(
+            WayOut::SystemCall,
+            came_from(0x0005, before, step_from_end(last, 2)),
+        )
+    } else {
+        None
+    }
+}
+
+/// Whether a program is lost: it came to its end from outside of its bytes. `last` has the last three steps at least.
 pub fn is_lost(cpu: &Cpu, last: &VecDeque<TraceStep>, labels: &Labels) -> bool
     ensures { result ≡ is_lost labels.now cpu.now last.now.items }
 {
-    let from = came_from(step_from_end(last, 0), step_from_end(last, 1));
-    is_finished(cpu.pc) && is_outside(labels, from)
+    match way_out(cpu, last) {
+        Some((_, address)) => !labels.has(address),
+        None => false,
+    }
 }
 
-/// Appends the address from which a program came to its end, if it is outside of the program.
+/// Appends a way out.
+fn put_way(out: &mut Vec<u8>, way: WayOut) -> Result<(), AllocError>
+    ensures { OnOk result (out.new.items ≡ out.old.items ++ way_text way) }
+{
+    match way {
+        WayOut::Jump => out.extend_from_slice(b"a jump"),
+        WayOut::SystemCall => out.extend_from_slice(b"system call 0"),
+    }
+}
+
+/// Appends how a program came to its end, and from which address, if that is outside of the program.
 fn put_outside(
     alloc: Global,
     out: &mut Vec<u8>,
     labels: &Labels,
-    address: Option<u16>,
+    way: Option<(WayOut, u16)>,
 ) -> Result<(), AllocError>
-    ensures { OnOk result (out.new.items ≡ out.old.items ++ outside_text labels.now address) }
+    ensures { OnOk result (out.new.items ≡ out.old.items ++ outside_text labels.now way) }
 {
-    let Some(address) = address else {
+    let Some((way, address)) = way else {
         return Ok(());
     };
     if labels.has(address) {
         return Ok(());
     }
-    out.extend_from_slice(b"ended by a jump from ")?;
+    out.extend_from_slice(b"ended by ")?;
+    put_way(out, way)?;
+    out.extend_from_slice(b" from ")?;
     put_word(alloc, out, address)?;
     out.extend_from_slice(b", outside the program\n")
 }
 
-/// Appends a line for a program that has finished by a jump from outside of its bytes.
-fn put_end_line(
-    alloc: Global,
-    out: &mut Vec<u8>,
-    cpu: &Cpu,
-    last: &VecDeque<TraceStep>,
-    labels: &Labels,
-) -> Result<(), AllocError>
-    ensures { OnOk result (out.new.items ≡ out.old.items ++ ended_line labels.now cpu.now last.now.items) }
-{
-    if !is_finished(cpu.pc) {
-        return Ok(());
-    }
-    let from = came_from(step_from_end(last, 0), step_from_end(last, 1));
-    put_outside(alloc, out, labels, from)
-}
-
 /// Prints the machine at the end of a run: the registers and the flags, the address of the buffer for records and the user, the stack's top
-/// eight words, and the call of the system at PC: where it returns to, and its file control block. `last` has the last two steps at
-/// least; a program that has finished by a jump from outside of its bytes has a line that says so.
+/// eight words, and the call of the system at PC: where it returns to, and its file control block. `last` has the last three steps at
+/// least; a program that came to its end from outside of its bytes has a line that says so.
 pub fn machine_text(
     alloc: Global,
     left: &Left,
@@ -265,6 +297,6 @@ pub fn machine_text(
     put_stack_line(alloc, &mut out, cpu, memory)?;
     put_return_line(alloc, &mut out, cpu, memory, labels)?;
     put_fcb_line(alloc, &mut out, cpu, memory)?;
-    put_end_line(alloc, &mut out, cpu, last, labels)?;
+    put_outside(alloc, &mut out, labels, way_out(cpu, last))?;
     Ok(out)
 }

@@ -3,7 +3,7 @@
 ghost use Rattle.std.specs.Prelude.{◌≡◌, IfOk, false, codes};
 ghost use Rattle.clap.specs.Words.{app_of, rule_of};
 ghost use Rattle.clap.specs.declared.builder.command.Command.TheViews.{out-Command};
-ghost use Rattle.z80dev_commands.specs.Commands.{base_rule, define_rule, flag_rule, labels_rule, last_rule, list_rule, name_rule, option_rule, out_rule, path_rule, paths_rule, steps_rule, user_rule, verbose_rule, with_file_rule, words_rule};
+ghost use Rattle.z80dev_commands.specs.Commands.{base_rule, color_rule, define_rule, flag_rule, labels_rule, last_rule, list_rule, name_rule, option_rule, out_rule, path_rule, paths_rule, steps_rule, symbols_rule, user_rule, verbose_rule, with_file_rule, words_rule};
 ghost use Rattle.z80dev_commands.specs.Private.{with_target, with_telling};
 
 use clap::builder::ValueParser;
@@ -131,6 +131,32 @@ pub(super) fn steps<'a>(alloc: Global) -> Arg<'a>
     .value_parser(value_parser!(u64))
 }
 
+/// `--steps N` of a command whose default is no limit.
+pub(super) fn any_steps<'a>(alloc: Global) -> Arg<'a>
+    ensures rule { rule_of result ≡ steps_rule }
+    ensures local { result.global ≡ false }
+{
+    option(
+        alloc,
+        "steps",
+        "N",
+        "The most steps (instructions, repetitions, system calls) [default: no limit]",
+    )
+    .value_parser(value_parser!(u64))
+}
+
+/// `--raw`.
+pub(super) fn raw<'a>(alloc: Global) -> Arg<'a>
+    ensures rule { rule_of result ≡ flag_rule (codes "raw") }
+    ensures local { result.global ≡ false }
+{
+    flag(
+        alloc,
+        "raw",
+        "Takes each key as it is pressed; z80dev-play puts the terminal into that mode",
+    )
+}
+
 /// `--last COUNT`.
 fn last<'a>(alloc: Global) -> Arg<'a>
     ensures rule { rule_of result ≡ last_rule }
@@ -140,7 +166,7 @@ fn last<'a>(alloc: Global) -> Arg<'a>
         alloc,
         "last",
         "COUNT",
-        "Prints the last COUNT steps if the run is stopped, at most 1000000",
+        "Prints the last COUNT steps if the run is stopped, or ends outside the program, at most 1000000",
     )
     .value_parser(ValueParser::unsigned(0, 1_000_000))
 }
@@ -204,6 +230,68 @@ pub(super) fn no_warn<'a>(alloc: Global) -> Arg<'a>
         alloc,
         "no-warn",
         "Does not warn of code that relies on the length of a jump",
+    )
+}
+
+/// `--map`.
+pub(super) fn map<'a>(alloc: Global) -> Arg<'a>
+    ensures rule { rule_of result ≡ flag_rule (codes "map") }
+    ensures local { result.global ≡ false }
+{
+    flag(
+        alloc,
+        "map",
+        "Also writes BASE.map: modules, their sizes and public names, and jumps",
+    )
+}
+
+/// `--symbols FORM`.
+pub(super) fn symbols<'a>(alloc: Global) -> Arg<'a>
+    ensures rule { rule_of result ≡ symbols_rule }
+    ensures local { result.global ≡ false }
+{
+    option(
+        alloc,
+        "symbols",
+        "FORM",
+        "Also writes symbols for a debugger: zsid for BASE.sym, ucsim for BASE.ucsim",
+    )
+}
+
+/// `--jumps`.
+pub(super) fn jumps<'a>(alloc: Global) -> Arg<'a>
+    ensures rule { rule_of result ≡ flag_rule (codes "jumps") }
+    ensures local { result.global ≡ false }
+{
+    flag(
+        alloc,
+        "jumps",
+        "Also says of each jump that could be short why it is long",
+    )
+}
+
+/// `--json`.
+pub(super) fn json<'a>(alloc: Global) -> Arg<'a>
+    ensures rule { rule_of result ≡ flag_rule (codes "json") }
+    ensures local { result.global ≡ false }
+{
+    flag(
+        alloc,
+        "json",
+        "Prints each message as one line of JSON, for editors and scripts",
+    )
+}
+
+/// `--color WHEN`.
+pub(super) fn color<'a>(alloc: Global) -> Arg<'a>
+    ensures rule { rule_of result ≡ color_rule }
+    ensures local { result.global ≡ false }
+{
+    option(
+        alloc,
+        "color",
+        "WHEN",
+        "Uses colours: always, never, or auto, which means at a terminal [default: auto]",
     )
 }
 

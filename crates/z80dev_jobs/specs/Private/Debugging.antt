@@ -2,6 +2,7 @@
 use Rattle.std.specs.Prelude.{◌≡◌, ℕ, List, [], Option, None, Some, Result, Ok, Err, Vec, map}
 use Rattle.std.specs.Borrow.{Bor}
 use Rattle.std.specs.Global.{Global}
+use Rattle.debugger.specs.Labelled.{symbol_parts}
 use Rattle.debugger.specs.declared.command.Symbol.{Symbol}
 use Rattle.disassembler.specs.Reading.{AreLabels, label_parts}
 use Rattle.disassembler.specs.declared.labels.Label.{Label}
@@ -14,9 +15,6 @@ use Rattle.z80dev_jobs.specs.Telling.{AreNotKnown}
 abbrev pub ReadsOrNone : Option (Bor (List ℕ)) → Folder → Folder → Result (Vec ℕ Global) End → Type 0
 ReadsOrNone path old new (Ok bytes) = (new ≡ old) × IsReadOrNone old path bytes.items
 ReadsOrNone path old new (Err e) = IsNotReadIfGiven old new path e
-
-abbrev pub symbol_parts : Symbol → ℕ × List ℕ
-symbol_parts symbol = (symbol.address, symbol.name.now)
 
 -- the symbols of a file of labels, or none; or the file is refused
 abbrev pub AreSymbols : Option (List ℕ) → Result (Vec Symbol Global) End → Type 0

@@ -1,6 +1,7 @@
 -- How the steps of commands end.
 use Rattle.std.specs.Prelude.{◌≡◌, ◌≢◌, ◌⊎◌, ℕ, ◌<◌, Bool, List, [], Option, None, Some, Result, Ok, Err, String, Vec, is_ok, length, option_map, string_bytes, true}
 use Rattle.std.specs.Borrow.{Bor}
+use Rattle.std.specs.declared.alloc.AllocError.{AllocError}
 use Rattle.clap.specs.declared.error.kind.ErrorKind.{ErrorKind}
 use Rattle.streams.specs.Stream.{Stream}
 use Rattle.std.specs.Global.{Global}
@@ -17,7 +18,7 @@ use Rattle.disassembler.specs.declared.fault.DisassemblyFault.{DisassemblyFault}
 use Rattle.disassembler.specs.declared.fault.DisassemblyFault.TheVariants as dis
 use Rattle.z80dev_finish.specs.Files.{Folder}
 use Rattle.z80dev_commands.specs.declared.job.Build.{Build}
-use Rattle.z80dev_jobs.specs.Command.{LacksMemory, RefusesDefine, RefusesWord, RefusesWords}
+use Rattle.z80dev_jobs.specs.Command.{LacksMemory, RefusesValue, RefusesWord, RefusesWords}
 use Rattle.z80dev_jobs.specs.Disks.{Warns}
 use Rattle.z80dev_jobs.specs.Making.{Effect, NothingDone, WritesBuilt}
 use Rattle.z80dev_jobs.specs.Private.Names.{Says}
@@ -115,10 +116,16 @@ abbrev pub Disassembles : List ℕ → Option (List ℕ) → List (List ℕ) →
 Disassembles program labels entries (Ok text) = IsDisassembly program labels entries (Ok text)
 Disassembles program labels entries (Err e) = RefusesProgram program labels entries e
 
--- the definitions are right, or the command ends with this status
-abbrev pub JudgesDefines : Option (List ℕ) → Stream → Stream → Option ℕ → Type 0
-JudgesDefines bad old new None = (bad ≡ None) × (new ≡ old)
-JudgesDefines bad old new (Some status) = ((word : List ℕ) × (bad ≡ Some word) × RefusesDefine word old old old new status) ⊎ LacksMemory old old old new status
+-- the values are right, or the command ends with this status
+abbrev pub JudgesValues : Option (List ℕ) → Stream → Stream → Option ℕ → Type 0
+JudgesValues bad old new None = (bad ≡ None) × (new ≡ old)
+JudgesValues bad old new (Some status) = ((why : List ℕ) × (bad ≡ Some why) × RefusesValue why old old old new status) ⊎ LacksMemory old old old new status
+
+-- the same, given what was found out about the values; memory may have run out for that
+abbrev pub JudgesBad : Result (Option (String Global)) AllocError → Stream → Stream → Option ℕ → Type 0
+JudgesBad (Ok bad) old new status = JudgesValues (option_map string_bytes bad) old new status
+JudgesBad (Err e) old new None = ⊥
+JudgesBad (Err e) old new (Some status) = LacksMemory old old old new status
 
 -- why the words are not known
 abbrev pub RefusesFault : WordsFault → Stream → Stream → ℕ → Type 0

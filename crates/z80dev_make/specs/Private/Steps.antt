@@ -1,5 +1,5 @@
 -- How reading object files ends, and sources by their parts.
-use Rattle.std.specs.Prelude.{◌≡◌, ◌-◌, ◌<◌, ◌^◌, ℕ, List, All, Result, Ok, Err, Vec, map}
+use Rattle.std.specs.Prelude.{◌≡◌, ℕ, List, All, Result, Ok, Err, Vec, map}
 use Rattle.std.specs.List.{AllZip}
 use Rattle.std.specs.Global.{Global}
 use Rattle.zmo_module.specs.declared.module.Module as held
@@ -19,7 +19,3 @@ AreRead objects (Err fault) = IsFirstFaultyObject objects fault
 -- Sources with these names and texts.
 abbrev pub AreNamed : List (List ℕ) → List (List ℕ) → List Source → Type 0
 AreNamed names texts sources = (map (λ source. source.name.now) sources ≡ names) × (map (λ source. source.text.now) sources ≡ texts)
-
--- Taken from the number of a line, `lines` give the same as `all`. They may be fewer, if both are higher than any number of a line.
-abbrev pub Counts : ℕ → ℕ → Type 0
-Counts lines all = (line : ℕ) → line < 2 ^ 32 → line - lines ≡ line - all

@@ -9,7 +9,10 @@ pub flag-requires-2 : goal.flag-requires-2
 flag-requires-2 c = reads_flag (codes "build") (codes "list") _ refl c.requires
 
 pub flag-requires-3 : goal.flag-requires-3
-flag-requires-3 c = reads_flag (codes "build") (codes "verbose") _ refl c.requires
+flag-requires-3 c = reads_flag (codes "build") (codes "map") _ refl c.requires
+
+pub flag-requires-4 : goal.flag-requires-4
+flag-requires-4 c = reads_flag (codes "build") (codes "verbose") _ refl c.requires
 
 pub warn-requires : goal.warn-requires
 warn-requires c = reads_flag (codes "build") (codes "no-warn") _ refl c.requires

@@ -1,7 +1,9 @@
-use Rattle.std.proofs.Common.{Err, inl, inr, map, refl, subst}
-use Rattle.z80dev_jobs.proofs.Debugged.{not_known}
+use Rattle.std.proofs.Common.{◌∙◌, ℕ, Bor, Err, IfOk, List, Ok, ap, inl, inr, length, map, refl, subst}
+use Rattle.z80dev_jobs.proofs.Debugged.{known_by, listed, not_known}
 use Rattle.z80dev_jobs.proofs.Given.{passed_on}
-use Rattle.z80dev_jobs.specs.Debugging.{DebugEndsBy}
+use Rattle.debugger.specs.Labelled.{symbol_parts}
+use Rattle.z80dev_run.specs.Program.{IsDebuggedRun}
+use Rattle.z80dev_jobs.specs.Debugging.{DebugEndsBy, debugged_words}
 use Rattle.z80dev_jobs.specs.Making.{ended}
 use Rattle.z80dev_jobs.specs.Private.Debugging.{AreSymbols}
 use Rattle.z80dev_jobs.specs.Reading.{bytes_in, reader_of}
@@ -39,14 +41,26 @@ returns-in_err-symbols-clause-ends g c = λ errors.
     let inputs = c.in_ok-inputs.inputs in
     let refused = not_known (bytes_in inputs.labels) e (subst (λ text. AreSymbols text (Err e)) c.as_deref.ensures.value c.in_err-symbols.ensures) in
     passed_on (λ result. DebugEndsBy c.args.job.now old new (ended result)) e c.from_residual-in_err-symbols.result c.from_residual-in_err-symbols.ensures.1
-    (inr (inputs, c.in_ok-inputs.ensures, inl (inr refused, (refl, refl))))
+    (inr (inputs, c.in_ok-inputs.ensures, inl (inr (_, c.in_ok-ready.ensures.disk_is, refused), (refl, refl))))
 
 pub returns-clause-ends : goal.returns-clause-ends
 returns-clause-ends g c = λ errors.
     let inputs = c.in_ok-inputs.inputs in
     let rest = c.debug-debugged.new.commands in
     let result = c.debug-debugged.result in
-    let debugs = c.debug-debugged.ensures.debugs inputs.program.items (map (λ word. word.now) c.deref.result.now) inputs.image.items inputs.typed.items c.in_ok-ready.ensures in
-    let same = subst (λ words. Debugs inputs.program.items (map (λ word. word.now) words) (g.W.Sink.stream c.args.output.now) (g.W.Sink.stream c.debug-debugged.new.output) (g.I.Input.failed rest) (g.I.Input.reads rest) result)
-    c.deref.ensures.value debugs in
-    inr (inputs, c.in_ok-inputs.ensures, inr (result, same, c.debug_end.ensures))
+    let old = g.W.Sink.stream c.args.output.now in
+    let new = g.W.Sink.stream c.debug-debugged.new.output in
+    let program = inputs.program.items in
+    let image = inputs.image.items in
+    let typed = inputs.typed.items in
+    let words = map (λ word. word.now) c.deref.result.now in
+    let debugs = c.debug-debugged.ensures.debugs program words image typed c.in_ok-ready.ensures in
+    let same = subst (λ words. Debugs program (map (λ word. word.now) words) old new (g.I.Input.failed rest) (g.I.Input.reads rest) result) c.deref.ensures.value debugs in
+    let debugged = c.debug-debugged.ensures.debugged program words image typed c.in_ok-ready.ensures in
+    let labels = known_by (bytes_in inputs.labels) (length program) c.in_ok-symbols.symbols (subst (λ text. AreSymbols text (Ok c.in_ok-symbols.symbols)) c.as_deref.ensures.value c.in_ok-symbols.ensures) in
+    let known = ap (map symbol_parts) c.deref-2.ensures.value ∙ labels.same in
+    let listing = listed c.as_deref-2.result (bytes_in inputs.list) _ c.as_deref-2.ensures.value refl in
+    let by_words = subst (λ words. IfOk result (λ done. IsDebuggedRun program (map (λ word. word.now) words) image typed (map symbol_parts c.deref-2.result.now) c.unwrap_or-listing.result.now old new)) c.deref.ensures.value debugged in
+    let by_labels = subst (λ symbols. IfOk result (λ done. IsDebuggedRun program (debugged_words c.args.job.now) image typed symbols c.unwrap_or-listing.result.now old new)) known by_words in
+    let by_listing = subst (λ text. IfOk result (λ done. IsDebuggedRun program (debugged_words c.args.job.now) image typed labels.known.labels text old new)) (ap (λ (b : Bor (List ℕ)). b.now) c.unwrap_or-listing.ensures ∙ listing) by_labels in
+    inr (inputs, c.in_ok-inputs.ensures, inr (labels.known, labels.are, result, same, by_listing, c.debug_end.ensures))

@@ -1,7 +1,8 @@
 use Rattle.std.proofs.Common.{◌≡◌, ◌<◌, ◌≤◌, ◌∙◌, ◌++◌, ◌∷◌, [], ℕ, List, Ok, ap, arith, length, map, option_map, subst, sym, take}
 use Rattle.std.proofs.lemmas.List.{get_or-map, length-map, map_push, take_all, take_more}
 use Rattle.disassembler.specs.Reading.{label_parts}
-use Rattle.z80dev_jobs.specs.Private.Debugging.{AreSymbols, symbol_parts}
+use Rattle.debugger.specs.Labelled.{symbol_parts}
+use Rattle.z80dev_jobs.specs.Private.Debugging.{AreSymbols}
 use Rattle.z80dev_jobs.proofs.debugging.symbols_of.Goals as goal
 
 pub loop-label-init : goal.loop-label-init

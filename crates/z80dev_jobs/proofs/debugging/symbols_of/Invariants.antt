@@ -1,6 +1,6 @@
 use Rattle.std.proofs.Common.{◌≡◌, map, take}
 use Rattle.disassembler.specs.Reading.{label_parts}
-use Rattle.z80dev_jobs.specs.Private.Debugging.{symbol_parts}
+use Rattle.debugger.specs.Labelled.{symbol_parts}
 use Rattle.z80dev_jobs.proofs.debugging.symbols_of.Given as goal
 
 abbrev pub invariant-loop-label : goal.invariant-loop-label

@@ -9,6 +9,9 @@ use Rattle.z80dev_jobs.proofs.dispatch.work.Goals as goal
 pub returns-in-Run-clause-ends : goal.returns-in-Run-clause-ends
 returns-in-Run-clause-ends g c = rw c.in-Run.is c.run_job.ensures.ends
 
+pub returns-in-Play-clause-ends : goal.returns-in-Play-clause-ends
+returns-in-Play-clause-ends g c = rw c.in-Play.is c.play_job.ensures.ends
+
 pub returns-clause-ends : goal.returns-clause-ends
 returns-clause-ends g c =
     let old = g.F.Files.folder c.args.host.files in
@@ -18,10 +21,10 @@ returns-clause-ends g c =
     elim c.match-job.branch [
       | in-Pipe w ↦ rw (w.in-Pipe.is, w.host-is, w.status-is) (refl, w.pipe-status.ensures.ends)
       | in-Asm w ↦ rw (w.in-Asm.is, w.host-is, w.status-is) (w.asm_job-status.ensures reader)
-      | in-Link w ↦ rw (w.in-Link.is, w.host-is, w.status-is) (ended w.link_files-end.result, w.link_files-end.ensures, w.report_any-status.ensures.status, w.report_any-status.ensures.told, refl)
+      | in-Link w ↦ rw (w.in-Link.is, w.host-is, w.status-is) (w.link_job-status.ensures reader)
       | in-Build w ↦ rw (w.in-Build.is, w.host-is, w.status-is) (w.build_job-status.ensures reader)
-      | in-Explain w ↦ rw (w.in-Explain.is, w.host-is, w.status-is) (ended w.explain_files-end.result, w.explain_files-end.ensures, w.report_any-status-in-Explain.ensures.status, w.report_any-status-in-Explain.ensures.told, refl)
-      | in-Check w ↦ rw (w.in-Check.is, w.host-is, w.status-is) (ended w.check_files-end.result, w.check_files-end.ensures, w.report_any-status-in-Check.ensures.status, w.report_any-status-in-Check.ensures.told, refl)
+      | in-Explain w ↦ rw (w.in-Explain.is, w.host-is, w.status-is) (w.explain_job-status.ensures reader)
+      | in-Check w ↦ rw (w.in-Check.is, w.host-is, w.status-is) (ended w.check_files-end.result, w.check_files-end.ensures, w.report_any-status.ensures.status, w.report_any-status.ensures.told, refl)
       | in-Dis w ↦ rw (w.in-Dis.is, w.host-is, w.status-is) (ended w.dis_file-end.result, w.dis_file-end.ensures, w.report_any-status-in-Dis.ensures.status, w.report_any-status-in-Dis.ensures.told, refl)
       | in-Disk w ↦ rw (w.in-Disk.is, w.host-is, w.status-is)
           (reported (DiskJobEnds w.in-Disk.job) old (g.F.Files.folder w.do_on_disk-ended.new.files) reader before (g.W.Sink.stream w.do_on_disk-ended.new.output) errors (g.E.Sink.stream w.report_line-status.new.errors) w.do_on_disk-ended.result w.report_line-status.result w.do_on_disk-ended.ensures w.report_line-status.ensures.status w.report_line-status.ensures.told)

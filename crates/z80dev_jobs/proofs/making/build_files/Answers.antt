@@ -2,7 +2,8 @@ use Rattle.std.proofs.Common.{◌∙◌, ◌++◌, ap, inl, inr, length, map, re
 use Rattle.std.specs.List.{AllZip}
 use Rattle.z80dev_jobs.specs.Making.{BuildEnds, effect_of, shared_paths, source_paths}
 use Rattle.z80dev_jobs.specs.Outputs.{base_of, why_not_written}
-use Rattle.z80dev_make.specs.Answers.{program_kinds}
+use Rattle.z80dev_make.specs.Products.{program_kinds}
+use Rattle.z80dev_jobs.specs.Products.{build_products}
 use Rattle.z80dev_jobs.specs.Private.Steps.{BuildsTexts}
 use Rattle.z80dev_jobs.specs.Reading.{IsOneNotRead, IsRead}
 use Rattle.z80dev_jobs.proofs.Clear.{as_many, builds, builds_so, clear, clear_of}
@@ -21,13 +22,13 @@ returns-in_err-texts g c =
     let e = c.in_err-texts.field-0.0 in
     let base = base_of job.out (source_paths job) in
     let same_base = c.base_of-base.ensures ∙ ap (λ files. base_of job.out (map (λ path. path.now) files)) c.deref.ensures.value in
-    let none = clear_of c.base_of-base.result.now base c.program_kinds-kinds.result.now (program_kinds job.list) c.deref-2.result.now shared.files.items c.deref-3.result.now job.sources.items
-    same_base c.program_kinds-kinds.ensures c.deref-2.ensures.value c.deref-3.ensures.value c.in_ok-refuse_overwriting.ensures in
+    let none = clear_of c.base_of-base.result.now base c.build_kinds-kinds.result.now (program_kinds (build_products job)) c.deref-2.result.now shared.files.items c.deref-3.result.now job.sources.items
+    same_base c.build_kinds-kinds.ensures c.deref-2.ensures.value c.deref-3.ensures.value c.in_ok-refuse_overwriting.ensures in
     let read_fronts = subst (λ files. AllZip (IsRead x.old) (map (λ path. path.now) files) fronts) c.deref-4.ensures.value c.in_ok-fronts.ensures.1 in
     let unread = subst (λ files. IsOneNotRead mid new (map (λ path. path.now) files) e) c.deref-5.ensures.value c.in_err-texts.ensures in
     let unread_then = subst (λ f. IsOneNotRead f new (source_paths job) e) c.in_ok-fronts.ensures.0 unread in
     lined_on (BuildEnds job x) e c.from_residual-in_err-texts.result c.from_residual-in_err-texts.ensures.1
-    (clear (why_not_written base (program_kinds job.list) (shared_paths shared ++ source_paths job)) _ x e none (inl (fronts, read_fronts, inr (unread_then, refl))))
+    (clear (why_not_written base (program_kinds (build_products job)) (shared_paths shared ++ source_paths job)) _ x e none (inl (fronts, read_fronts, inr (unread_then, refl))))
 
 pub build_texts-requires-clause-fronts : goal.build_texts-requires-clause-fronts
 build_texts-requires-clause-fronts g c =
@@ -49,8 +50,8 @@ returns g c =
     let x = effect_of (g.F.Files.folder c.args.files.now) (g.F.Files.folder c.build_texts.new.files) (g.W.Sink.stream c.args.output.now) (g.W.Sink.stream c.build_texts.new.output) in
     let base = base_of job.out (source_paths job) in
     let same_base = c.base_of-base.ensures ∙ ap (λ files. base_of job.out (map (λ path. path.now) files)) c.deref.ensures.value in
-    let none = clear_of c.base_of-base.result.now base c.program_kinds-kinds.result.now (program_kinds job.list) c.deref-2.result.now shared.files.items c.deref-3.result.now job.sources.items
-    same_base c.program_kinds-kinds.ensures c.deref-2.ensures.value c.deref-3.ensures.value c.in_ok-refuse_overwriting.ensures in
+    let none = clear_of c.base_of-base.result.now base c.build_kinds-kinds.result.now (program_kinds (build_products job)) c.deref-2.result.now shared.files.items c.deref-3.result.now job.sources.items
+    same_base c.build_kinds-kinds.ensures c.deref-2.ensures.value c.deref-3.ensures.value c.in_ok-refuse_overwriting.ensures in
     let read_fronts = subst (λ files. AllZip (IsRead x.old) (map (λ path. path.now) files) fronts) c.deref-4.ensures.value c.in_ok-fronts.ensures.1 in
     let read = subst (λ files. AllZip (IsRead mid) (map (λ path. path.now) files) texts) c.deref-5.ensures.value c.in_ok-texts.ensures.1 in
     let read_then = subst (λ f. AllZip (IsRead f) (source_paths job) texts) c.in_ok-fronts.ensures.0 read in

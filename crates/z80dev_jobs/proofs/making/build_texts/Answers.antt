@@ -4,6 +4,7 @@ use Rattle.z80dev_make.specs.Answers.{told_text}
 use Rattle.z80dev_make.specs.Build.{IsMade}
 use Rattle.z80dev_make.specs.Warned.{AreWarnings}
 use Rattle.z80dev_make.specs.declared.front.Front.{Front}
+use Rattle.z80dev_jobs.specs.Products.{build_products}
 use Rattle.z80dev_jobs.specs.Making.{AreFiles, IsCarriedOut, LinesAt, effect_of, source_paths}
 use Rattle.z80dev_jobs.specs.Private.Steps.{BuildsTexts, end_after, lines_after}
 use Rattle.z80dev_jobs.proofs.Carried.{carried}
@@ -28,7 +29,8 @@ returns g c =
     c.deref.ensures.value refl c.deref-4.ensures.value c.in_ok-shared_files.ensures in
     let sources = are_files c.deref-2.result.now job.sources.items c.args.texts.now c.args.texts.now c.in_ok-sources.sources.items c.in_ok-sources.sources.items
     c.deref-2.ensures.value refl refl c.in_ok-sources.ensures in
-    let right = subst (λ files. IsMade front files job.grow job.list answer made.jumps) c.deref-5.ensures.value c.build-answer.ensures.made in
+    let made_so = subst (λ products. IsMade front c.deref-5.result.now job.grow products answer made.jumps) c.build_products.ensures c.build-answer.ensures.made in
+    let right = subst (λ files. IsMade front files job.grow (build_products job) answer made.jumps) c.deref-5.ensures.value made_so in
     let warned = subst (λ files. AreWarnings job.warn front files job.grow made.jumps made.warnings.items) c.deref-5.ensures.value c.build-answer.ensures.warned in
     ends_lined (BuildsTexts base job fronts texts x) c.done_with_lines.result
     (inl (

@@ -5,6 +5,7 @@ use Rattle.zmo_module.specs.Modules.{module_of}
 use Rattle.zmo_module.specs.Rules.{IsModule}
 use Rattle.zmo_module.specs.declared.module.Module as held
 use Rattle.zlink.specs.Program.Faults.{first_fault}
+use Rattle.z80dev_make.specs.Front.{earlier, front_lines}
 use Rattle.jump_warnings.specs.declared.warnings.Warning.{Warning}
 use Rattle.jump_warnings.specs.Warnings.{all_warnings}
 use Rattle.z80dev_make.specs.Private.Shown.{shown_in}
@@ -23,8 +24,9 @@ returns c =
     let files = c.args.files.now in
     let built = c.args.built.now in
     let modules = built.modules.items in
+    let front = c.args.front in
     let own = c.in_ok-lines.lines.items in
-    let sources = all_built files own built.lines.items modules (c.in_ok-lines.ensures ∙ ap (map (λ l. l.each.items)) c.deref.ensures.value) in
+    let sources = all_built front files own built.lines.items modules (c.in_ok-lines.ensures ∙ ap (map (λ l. map (earlier (front_lines front)) l.each.items)) c.deref.ensures.value) in
     IfOk-weaker c.told_joined.result _ _
     (λ all is.
     subst (λ ss. AllZip (IsGivenAs ss) (found_in modules) all.items) sources

@@ -1,0 +1,263 @@
+//! The command `play`.
+
+ghost use Rattle.std.specs.Prelude.{◌≡◌, ◌≤◌, IfOk, Vec, false, map, option_map, string_bytes, unwrap_or};
+ghost use Rattle.std.specs.List.{concat};
+ghost use Rattle.z80dev_jobs.specs.Command.{Judging};
+ghost use Rattle.z80dev_jobs.specs.Playing.{EndsPlay, EndsSession, KeepsPlayed, PlayEndsWith, ReadsPlayed, Records, ReportsPlay, bad_in_play, bad_record, bad_terminal, codes_named, codes_of};
+ghost use Rattle.z80dev_jobs.specs.Private.Images.{IsFreeOf};
+ghost use Rattle.z80dev_jobs.specs.Reading.{reader_of};
+ghost use Rattle.z80dev_jobs.specs.World.{world_of};
+ghost use Rattle.z80dev_run.specs.declared.desk.TheConstants.{MOST_LISTENS};
+
+use crate::disks::Image;
+use crate::host::{Ended, Host};
+use crate::reading::read;
+use crate::running::{Inputs, claim_disk, keep_disk, ready_of, warn_after};
+use crate::values::refuse_value;
+use screen_codes::Codes;
+use std::alloc::{AllocError, Global};
+use z80dev::{DONE, End, Files, Input, Sink, report};
+use z80dev_commands::Play;
+use z80dev_run::{Arrival, Desk, Keys, PlayEnd, PlayedRan, conclude, record_file};
+
+/// Whose screen codes a word of `--terminal` names.
+fn codes_named(word: &str) -> Option<Codes>
+    ensures { result ≡ codes_named word.now }
+{
+    if word == "adm3a" {
+        return Some(Codes::Adm3a);
+    }
+    if word == "vt52" {
+        return Some(Codes::Vt52);
+    }
+    if word == "none" {
+        return Some(Codes::Plain);
+    }
+    None
+}
+
+/// Whose screen codes a program prints: those of the ADM-3A, if none are named.
+fn codes_of(word: Option<&str>) -> Codes
+    ensures { result ≡ codes_of word.entry }
+{
+    match word {
+        Some(word) => codes_named(word).unwrap_or(Codes::Adm3a),
+        None => Codes::Adm3a,
+    }
+}
+
+/// Answers with which text a value of `--terminal` is refused that names no screen codes.
+fn bad_terminal(alloc: Global, word: Option<&str>) -> Result<Option<String>, AllocError>
+    ensures { IfOk result (λ why. option_map string_bytes why ≡ bad_terminal word.entry) }
+{
+    match word {
+        Some(word) if codes_named(word).is_none() => {
+            Ok(Some(format!(in alloc; "BadTerminal({word})")?))
+        }
+        _ => Ok(None),
+    }
+}
+
+/// Answers with which text a record is refused that has the path of the program or of the image.
+fn bad_record(
+    alloc: Global,
+    job: &Play<'_>,
+    given: Option<&str>,
+) -> Result<Option<String>, AllocError>
+    ensures { IfOk result (λ why. option_map string_bytes why ≡ bad_record job.now given.entry) }
+{
+    let Some(path) = given else {
+        return Ok(None);
+    };
+    let is_image = match job.disk {
+        Some(disk) => path == disk,
+        None => false,
+    };
+    if path == job.program || is_image {
+        return Ok(Some(format!(in alloc; "Overwrites({path})")?));
+    }
+    Ok(None)
+}
+
+/// Answers with which text the first value of `play` is refused that is wrong.
+fn bad_in_play(alloc: Global, job: &Play<'_>) -> Result<Option<String>, AllocError>
+    ensures { IfOk result (λ why. option_map string_bytes why ≡ bad_in_play job.now) }
+{
+    match bad_terminal(alloc, job.terminal)? {
+        Some(why) => Ok(Some(why)),
+        None => bad_record(alloc, job, job.record),
+    }
+}
+
+/// Claims the image and reads the program.
+fn played_of<'a, F: Files>(alloc: Global, job: &Play<'a>, files: &mut F) -> Result<Inputs, End<'a>>
+    ensures { ReadsPlayed job.now (F.folder files.old) (F.folder files.new) result }
+{
+    let Image { bytes, warnings } = claim_disk(alloc, job.disk, job.lock, files)?;
+    let program = read(alloc, job.program, files)?;
+    Ok(Inputs {
+        image: bytes,
+        warnings,
+        program,
+        labels: None,
+        list: None,
+        typed: Vec::new(alloc),
+    })
+}
+
+/// Writes the bytes that came, if there is a path for them.
+fn record<'a, F: Files>(
+    alloc: Global,
+    path: Option<&'a str>,
+    arrivals: &[Arrival],
+    files: &mut F,
+) -> Result<(), End<'a>>
+    ensures { Records path.entry arrivals.now (F.folder files.old) (F.folder files.new) result }
+{
+    let Some(path) = path else {
+        return Ok(());
+    };
+    let Ok(text) = record_file(alloc, arrivals) else {
+        return Err(End::NoMemory);
+    };
+    match files.write(path, &text) {
+        Ok(()) => Ok(()),
+        Err(_) => Err(End::File { path, ending: "" }),
+    }
+}
+
+/// Keeps the image that a session leaves, then writes the bytes that came.
+fn keep_played<'a, F: Files>(
+    alloc: Global,
+    job: &Play<'a>,
+    bytes: &[u8],
+    played: &PlayedRan,
+    files: &mut F,
+) -> Result<(), End<'a>>
+    requires free { IsFreeOf job.now.disk (F.folder files.old) }
+    ensures { KeepsPlayed job.now bytes.now (concat played.now.image) played.now.arrivals.items (F.folder files.old) (F.folder files.new) result }
+{
+    keep_disk(job.disk, bytes, played.image_bytes(), files)?;
+    record(alloc, job.record, &played.arrivals, files)
+}
+
+/// Reports why a session ended, and gives the exit status.
+fn end_session<E: Sink>(
+    alloc: Global,
+    lines: &Option<String>,
+    end: PlayEnd,
+    pc: u16,
+    errors: &mut E,
+) -> u8
+    ensures { EndsSession (option_map string_bytes lines.now) end pc (E.stream errors.old) (E.stream errors.new) result }
+{
+    let status = match end {
+        PlayEnd::Run(why) => conclude(alloc, why, pc, errors),
+        PlayEnd::Left => DONE,
+        PlayEnd::Failed => return report(&End::Stream, errors),
+        PlayEnd::NoMemory => return report(&End::NoMemory, errors),
+    };
+    warn_after(lines, status, errors);
+    status
+}
+
+/// Reports that a file could not be written, or why a session ended. Gives the exit status.
+fn report_play<E: Sink>(
+    alloc: Global,
+    lines: &Option<String>,
+    kept: Result<(), End<'_>>,
+    end: PlayEnd,
+    pc: u16,
+    errors: &mut E,
+) -> u8
+    ensures { ReportsPlay (option_map string_bytes lines.now) kept.entry end pc (E.stream errors.old) (E.stream errors.new) result }
+{
+    match kept {
+        Ok(()) => end_session(alloc, lines, end, pc, errors),
+        Err(end) => report(&end, errors),
+    }
+}
+
+/// Keeps the image, writes the bytes that came, reports why the session ended, and gives the exit status.
+fn end_play<F: Files, E: Sink>(
+    alloc: Global,
+    job: &Play<'_>,
+    inputs: &Inputs,
+    played: &PlayedRan,
+    files: &mut F,
+    errors: &mut E,
+) -> u8
+    requires free { IsFreeOf job.now.disk (F.folder files.old) }
+    ensures { EndsPlay job.now inputs.now played.now.end played.now.pc (concat played.now.image) played.now.arrivals.items (F.folder files.old) (F.folder files.new) (E.stream errors.old) (E.stream errors.new) result }
+{
+    let kept = keep_played(alloc, job, &inputs.image, played, files);
+    report_play(alloc, &inputs.warnings, kept, played.end, played.pc, errors)
+}
+
+/// How keys come.
+fn keys_of(job: &Play<'_>) -> Keys {
+    if job.raw { Keys::Raw } else { Keys::Lines }
+}
+
+/// Runs a program for somebody at standard input and standard output, and gives the exit status with what the command worked on.
+fn play<F: Files, I: Input, W: Sink + Drop, E: Sink>(
+    alloc: Global,
+    job: &Play<'_>,
+    mut host: Host<F, I, W, E>,
+) -> Ended<F, I, W, E>
+    requires sound { I.failed host.input ≡ false }
+    requires unread { I.reads host.input ≡ 0 }
+    ensures ends { PlayEndsWith job.now (world_of (F.folder host.files) (reader_of (I.remaining host.input) (I.failed host.input) (I.reads host.input) (I.interruptions host.input)) (W.stream host.output) (E.stream host.errors)) (world_of (F.folder result.host.files) (reader_of (I.remaining result.host.input) (I.failed result.host.input) (I.reads result.host.input) (I.interruptions result.host.input)) (W.stream result.host.output) (E.stream result.host.errors)) result.status }
+    ensures reads { I.reads result.host.input ≤ MOST_LISTENS }
+{
+    let inputs = match played_of(alloc, job, &mut host.files) {
+        Ok(inputs) => inputs,
+        Err(end) => {
+            let status = report(&end, &mut host.errors);
+            return Ended { status, host };
+        }
+    };
+    let ready = match ready_of(alloc, &inputs, &job.words) {
+        Ok(ready) => ready,
+        Err(end) => {
+            let status = report(&end, &mut host.errors);
+            return Ended { status, host };
+        }
+    };
+    let Host {
+        mut files,
+        input,
+        output,
+        mut errors,
+        is_terminal,
+    } = host;
+    let mut desk = Desk::new(alloc, input, output, codes_of(job.terminal), keys_of(job));
+    let played = ready.play(alloc, &mut desk, job.steps.unwrap_or(u64::MAX));
+    let status = end_play(alloc, job, &inputs, &played, &mut files, &mut errors);
+    let (input, output) = desk.into_streams();
+    let host = Host {
+        files,
+        input,
+        output,
+        errors,
+        is_terminal,
+    };
+    Ended { status, host }
+}
+
+/// Does `play`, unless a value is refused, and gives the exit status with what the command worked on.
+pub(crate) fn play_job<F: Files, I: Input, W: Sink + Drop, E: Sink>(
+    alloc: Global,
+    job: &Play<'_>,
+    mut host: Host<F, I, W, E>,
+) -> Ended<F, I, W, E>
+    requires sound { I.failed host.input ≡ false }
+    requires unread { I.reads host.input ≡ 0 }
+    ensures ends { Judging (bad_in_play job.now) (PlayEndsWith job.now) (world_of (F.folder host.files) (reader_of (I.remaining host.input) (I.failed host.input) (I.reads host.input) (I.interruptions host.input)) (W.stream host.output) (E.stream host.errors)) (world_of (F.folder result.host.files) (reader_of (I.remaining result.host.input) (I.failed result.host.input) (I.reads result.host.input) (I.interruptions result.host.input)) (W.stream result.host.output) (E.stream result.host.errors)) result.status }
+    ensures reads { I.reads result.host.input ≤ MOST_LISTENS }
+{
+    if let Some(status) = refuse_value(bad_in_play(alloc, job), &mut host.errors) {
+        return Ended { status, host };
+    }
+    play(alloc, job, host)
+}
