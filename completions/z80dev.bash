@@ -99,7 +99,7 @@ _z80dev() {
                 [[ "$option" != --user ]] || user=$each
                 option=''
             fi
-        elif [[ "$each" =~ ^(--(out|define|with|labels|entry|disk|steps|last|trace|profile|input|user)|-o)$ || "$command $each" =~ ^(run|debug)\ --list$ ]]; then
+        elif [[ "$each" =~ ^(--(out|define|with|labels|entry|disk|steps|last|trace|profile|input|user|symbols|color|terminal|record)|-o)$ || "$command $each" =~ ^(run|debug)\ --list$ ]]; then
             option=$each
         elif [[ "$each" == --to || "$each" == --all ]]; then
             several=$each
@@ -115,19 +115,22 @@ _z80dev() {
 
     case $option in
     --out | -o) _z80dev_bases ;;
-    --with | --trace | --profile | --input) _z80dev_any_file ;;
+    --with | --trace | --profile | --input | --record) _z80dev_any_file ;;
     --labels) _z80dev_files sym ;;
     --list) _z80dev_files lst ;;
+    --symbols) mapfile -t COMPREPLY < <(compgen -W 'zsid ucsim' -- "$word") ;;
+    --color) mapfile -t COMPREPLY < <(compgen -W 'always never auto' -- "$word") ;;
+    --terminal) mapfile -t COMPREPLY < <(compgen -W 'adm3a vt52 none' -- "$word") ;;
     --disk) _z80dev_files img dsk cpm ;;
     esac
     [[ -z "$option" ]] || return
 
     case $command in
-    '') options='asm link build explain check dis dir put get erase rename protect unprotect check-disk blank run debug -h --help -V --version' ;;
+    '') options='asm link build explain check dis dir put get erase rename protect unprotect check-disk blank run debug play -h --help -V --version' ;;
     asm) options='-o --out --grow --no-warn --define --with -h --help' ;;
-    link) options='-o --out -h --help' ;;
-    build) options='-o --out --grow --list -v --verbose --no-warn --define --with -h --help' ;;
-    explain) options='--grow -h --help' ;;
+    link) options='-o --out --map --symbols -h --help' ;;
+    build) options='-o --out --grow --list --map --symbols -v --verbose --no-warn --define --with -h --help' ;;
+    explain) options='--grow --jumps --json --color --define --with -h --help' ;;
     check | check-disk) options='-h --help' ;;
     dis) options='--labels --entry -h --help' ;;
     dir) options='--user --long -h --help' ;;
@@ -138,6 +141,7 @@ _z80dev() {
     blank) options='--mega --keep --no-lock -h --help' ;;
     run) options='--disk --no-lock --steps --labels --regs --last --trace --profile --list -h --help' ;;
     debug) options='--disk --input --labels --list -h --help' ;;
+    play) options='--disk --no-lock --steps --raw --terminal --record -h --help' ;;
     esac
     if [[ "$word" == -* || -z "$command" ]]; then
         mapfile -t COMPREPLY < <(compgen -W "$options" -- "$word")
@@ -149,8 +153,8 @@ _z80dev() {
     link:*) _z80dev_files zmo ;;
     check:0) _z80dev_files siz ;;
     check:1) _z80dev_files crt ;;
-    dis:0 | run:0 | debug:0) _z80dev_files com ;;
-    run:* | debug:*) [[ -z "$disk" ]] || _z80dev_names "$disk" ;;
+    dis:0 | run:0 | debug:0 | play:0) _z80dev_files com ;;
+    run:* | debug:* | play:*) [[ -z "$disk" ]] || _z80dev_names "$disk" ;;
     *:0) _z80dev_files img dsk cpm ;;
     put:1 | put--to:* | get:2) _z80dev_any_file ;;
     put:2)

@@ -18,7 +18,7 @@ function __z80dev_operands
             set is_value no
         else if contains -- "$words[2] $word" 'run --list' 'debug --list'
             set is_value yes
-        else if contains -- $word --out -o --define --with --labels --entry --disk --steps --last --trace --profile --input --user
+        else if contains -- $word --out -o --define --with --labels --entry --disk --steps --last --trace --profile --input --user --symbols --color --terminal --record
             set is_value yes
         else if not string match -q -- '-*' $word
             echo $word
@@ -85,6 +85,7 @@ complete -c z80dev -n __fish_use_subcommand -a check-disk -d 'Check the director
 complete -c z80dev -n __fish_use_subcommand -a blank -d 'Make an empty disk image'
 complete -c z80dev -n __fish_use_subcommand -a run -d 'Run a CP/M program'
 complete -c z80dev -n __fish_use_subcommand -a debug -d 'Debug a CP/M program, forwards and backwards'
+complete -c z80dev -n __fish_use_subcommand -a play -d 'Run a CP/M program for somebody at a keyboard'
 
 complete -c z80dev -n '__z80dev_at asm' -s h -l help -d 'Print help'
 complete -c z80dev -n '__z80dev_at asm' -s o -l out -x -a '(__z80dev_bases)' -d 'Path of the object, without its ending'
@@ -96,12 +97,16 @@ complete -c z80dev -n '__z80dev_at asm 0' -a '(__z80dev_files asm mac z80)' -d '
 
 complete -c z80dev -n '__z80dev_at link' -s h -l help -d 'Print help'
 complete -c z80dev -n '__z80dev_at link' -s o -l out -x -a '(__z80dev_bases)' -d 'Path of the files, without an ending'
+complete -c z80dev -n '__z80dev_at link' -l map -d 'Write a map of the program too'
+complete -c z80dev -n '__z80dev_at link' -l symbols -x -a 'zsid ucsim' -d 'Write symbols for a debugger too'
 complete -c z80dev -n '__z80dev_at link' -a '(__z80dev_files zmo)' -d 'Object'
 
 complete -c z80dev -n '__z80dev_at build' -s h -l help -d 'Print help'
 complete -c z80dev -n '__z80dev_at build' -s o -l out -x -a '(__z80dev_bases)' -d 'Path of the files, without an ending'
 complete -c z80dev -n '__z80dev_at build' -l grow -d 'Let a JR out of reach become a JP'
 complete -c z80dev -n '__z80dev_at build' -l list -d 'Write a listing and the labels too'
+complete -c z80dev -n '__z80dev_at build' -l map -d 'Write a map of the program too'
+complete -c z80dev -n '__z80dev_at build' -l symbols -x -a 'zsid ucsim' -d 'Write symbols for a debugger too'
 complete -c z80dev -n '__z80dev_at build' -s v -l verbose -d 'Print how many jumps are short and long'
 complete -c z80dev -n '__z80dev_at build' -l no-warn -d 'Do not warn of code that relies on the length of a jump'
 complete -c z80dev -n '__z80dev_at build' -l define -x -d 'Define a name as a number'
@@ -110,6 +115,11 @@ complete -c z80dev -n '__z80dev_at build' -a '(__z80dev_files asm mac z80)' -d '
 
 complete -c z80dev -n '__z80dev_at explain' -s h -l help -d 'Print help'
 complete -c z80dev -n '__z80dev_at explain' -l grow -d 'Let a JR out of reach become a JP'
+complete -c z80dev -n '__z80dev_at explain' -l jumps -d 'Say why each jump that could be short is long'
+complete -c z80dev -n '__z80dev_at explain' -l json -d 'Print each message as one line of JSON'
+complete -c z80dev -n '__z80dev_at explain' -l color -x -a 'always never auto' -d 'Use colours'
+complete -c z80dev -n '__z80dev_at explain' -l define -x -d 'Define a name as a number'
+complete -c z80dev -n '__z80dev_at explain' -l with -r -F -d 'File of definitions and macros'
 complete -c z80dev -n '__z80dev_at explain' -a '(__z80dev_files asm mac z80)' -d 'Source file'
 
 complete -c z80dev -n '__z80dev_at check' -s h -l help -d 'Print help'
@@ -188,7 +198,7 @@ complete -c z80dev -n '__z80dev_at run' -l no-lock -d 'Do not lock the image'
 complete -c z80dev -n '__z80dev_at run' -l steps -x -d 'The most steps that are run'
 complete -c z80dev -n '__z80dev_at run' -l labels -x -a '(__z80dev_files sym)' -d 'File of labels'
 complete -c z80dev -n '__z80dev_at run' -l regs -d 'Print the registers and the stack at the end'
-complete -c z80dev -n '__z80dev_at run' -l last -x -d 'How many of the last steps to print if the run is stopped'
+complete -c z80dev -n '__z80dev_at run' -l last -x -d 'How many of the last steps to print if the run is stopped, or ends outside the program'
 complete -c z80dev -n '__z80dev_at run' -l trace -r -F -d 'File to write with a line for each step'
 complete -c z80dev -n '__z80dev_at run' -l profile -r -F -d 'File to write with how often each instruction ran'
 complete -c z80dev -n '__z80dev_at run' -l list -x -a '(__z80dev_files lst)' -d 'Listing for the profile'
@@ -202,3 +212,13 @@ complete -c z80dev -n '__z80dev_at debug' -l labels -x -a '(__z80dev_files sym)'
 complete -c z80dev -n '__z80dev_at debug' -l list -x -a '(__z80dev_files lst)' -d 'Listing of which where shows lines'
 complete -c z80dev -n '__z80dev_at debug 0' -a '(__z80dev_files com)' -d 'Program'
 complete -c z80dev -n '__z80dev_at debug; and not __z80dev_at debug 0' -a '(set -l disk (__z80dev_disk); and __z80dev_names $disk[-1])' -d 'Name on the disk'
+
+complete -c z80dev -n '__z80dev_at play' -s h -l help -d 'Print help'
+complete -c z80dev -n '__z80dev_at play' -l disk -x -a '(__z80dev_files img dsk cpm)' -d 'Image of drive A'
+complete -c z80dev -n '__z80dev_at play' -l no-lock -d 'Do not lock the image'
+complete -c z80dev -n '__z80dev_at play' -l steps -x -d 'The most steps that are run'
+complete -c z80dev -n '__z80dev_at play' -l raw -d 'Each key comes as it is pressed'
+complete -c z80dev -n '__z80dev_at play' -l terminal -x -a 'adm3a vt52 none' -d 'Whose screen codes the program prints'
+complete -c z80dev -n '__z80dev_at play' -l record -r -F -d 'File to write with each byte that came'
+complete -c z80dev -n '__z80dev_at play 0' -a '(__z80dev_files com)' -d 'Program'
+complete -c z80dev -n '__z80dev_at play; and not __z80dev_at play 0' -a '(set -l disk (__z80dev_disk); and __z80dev_names $disk[-1])' -d 'Name on the disk'

@@ -6,7 +6,8 @@
 
 ;; (load "/PATH/editors/emacs/z80dev.el") in your init file.  Then files that end with .asm, .mac or .z80 open in `z80dev-mode',
 ;; and in a compilation buffer `next-error' goes to the lines of `error: PATH(LINE): NAME' and of `warning: PATH(LINE): TEXT', and RET to
-;; that of `grown PATH(LINE)'.  It also goes to the places that `z80dev explain' prints, as `PATH:LINE:COLUMN: error: TEXT [NAME]'.
+;; that of `grown PATH(LINE)'.  It also goes to the places that `z80dev explain' prints, as `PATH:LINE:COLUMN: error: TEXT [NAME]'; to
+;; those of its notes, `PATH:LINE:COLUMN: note: TEXT', RET goes.
 ;; Columns count bytes: set `compilation-error-screen-columns' to nil, so that Emacs counts a tab as one column too.
 
 ;;; Code:
@@ -20,7 +21,7 @@
 (add-to-list 'compilation-error-regexp-alist-alist
              '(z80dev-warning "^warning: \\([^(]+\\)(\\([0-9]+\\)): " 1 2 nil 1))
 (add-to-list 'compilation-error-regexp-alist-alist
-             '(z80dev-explain "^\\(.+?\\):\\([0-9]+\\):\\([0-9]+\\): \\(?:error\\|\\(warning\\)\\): " 1 2 3 (4)))
+             '(z80dev-explain "^\\(.+?\\):\\([0-9]+\\):\\([0-9]+\\): \\(?:error\\|\\(warning\\)\\|\\(note\\)\\): " 1 2 3 (4 . 5)))
 (add-to-list 'compilation-error-regexp-alist 'z80dev)
 (add-to-list 'compilation-error-regexp-alist 'z80dev-warning)
 (add-to-list 'compilation-error-regexp-alist 'z80dev-grown)

@@ -13,8 +13,8 @@ CompilerSet makeprg=z80dev\ build\ --list\ --out\ %:r:S\ %:S
 
 " error: PATH(LINE): NAME; warning: PATH(LINE): TEXT; grown PATH(LINE)
 CompilerSet errorformat=%Eerror:\ %f(%l):\ %m,%Wwarning:\ %f(%l):\ %m,%Igrown\ %f(%l)
-" of explain: PATH:LINE:COLUMN: error: TEXT [NAME], or warning: TEXT; not its last line, which has the number of errors
-CompilerSet errorformat+=%E%f:%l:%c:\ error:\ %m,%W%f:%l:%c:\ warning:\ %m,%-Gerror:\ %*\\d\ %.%#
+" of explain: PATH:LINE:COLUMN: error: TEXT [NAME], warning: TEXT or note: TEXT; not its last line, which has the number of errors
+CompilerSet errorformat+=%E%f:%l:%c:\ error:\ %m,%W%f:%l:%c:\ warning:\ %m,%I%f:%l:%c:\ note:\ %m,%-Gerror:\ %*\\d\ %.%#
 " error: NAME, which has no line; all other lines are ignored
 CompilerSet errorformat+=%Eerror:\ %m,%-G%.%#
 
