@@ -58,31 +58,31 @@ outcome_good outcome r is good = (λ e. good.0 (is ∙ ap answered e), λ e. goo
 done_good : (outcome : Result ⊤ Stop) (r : Result Reply Stop) → r ≡ nothing_answered outcome → HasNotFailed r → HasNotFailed outcome
 done_good outcome r is good = (λ e. good.0 (is ∙ ap nothing_answered e), λ e. good.1 (is ∙ ap nothing_answered e))
 
-one_console : (first : Option (List ℕ)) (call : ConsoleCall) (argument : ℕ) (a b x y : Screen) (before now left : List ℕ) (r s : Result Reply Stop) → AlikeScreens first a b → HasNotFailed r → HasNotFailed s
-    → ConsoleAnswers call argument a x before now r → ConsoleAnswers call argument b y before left s → (s ≡ r) × (left ≡ now) × AlikeScreens first x y
-one_console first console.Input argument a b x y before now left r s alike good fine one two =
+one_console : (viewed : Option (List ℕ × List ℕ)) (call : ConsoleCall) (argument : ℕ) (a b x y : Screen) (before now left : List ℕ) (r s : Result Reply Stop) → AlikeScreens viewed a b → HasNotFailed r → HasNotFailed s
+    → ConsoleAnswers call argument a x before now r → ConsoleAnswers call argument b y before left s → (s ≡ r) × (left ≡ now) × AlikeScreens viewed x y
+one_console viewed console.Input argument a b x y before now left r s alike good fine one two =
     let talks : taken_talk b ≡ taken_talk a = ap (λ c. taken_from c b.dialog.input) alike.column ∙ ap (taken_from a.column) alike.dialog.input in
-    let both = one_talk first a b x y (taken_talk a) (taken_talk b) one.1.0 two.1.0 alike talks (outcome_good one.1.0 r one.1.1 good) (outcome_good two.1.0 s two.1.1 fine) one.1.2 two.1.2 in
+    let both = one_talk viewed a b x y (taken_talk a) (taken_talk b) one.1.0 two.1.0 alike talks (outcome_good one.1.0 r one.1.1 good) (outcome_good two.1.0 s two.1.1 fine) one.1.2 two.1.2 in
     (two.1.1 ∙ ap answered both.0 ∙ sym one.1.1, two.0 ∙ sym one.0, both.1)
-one_console first console.Output argument a b x y before now left r s alike good fine one two =
+one_console viewed console.Output argument a b x y before now left r s alike good fine one two =
     let talks : put_talk b (argument % 256) ≡ put_talk a (argument % 256) = ap (λ c. talk (map Put (text_shown c (argument % 256 ∷ []))) (Ok tt)) alike.column in
-    let both = one_talk first a b x y (put_talk a (argument % 256)) (put_talk b (argument % 256)) one.1.0 two.1.0 alike talks (done_good one.1.0 r one.1.1 good) (done_good two.1.0 s two.1.1 fine) one.1.2 two.1.2 in
+    let both = one_talk viewed a b x y (put_talk a (argument % 256)) (put_talk b (argument % 256)) one.1.0 two.1.0 alike talks (done_good one.1.0 r one.1.1 good) (done_good two.1.0 s two.1.1 fine) one.1.2 two.1.2 in
     (two.1.1 ∙ ap nothing_answered both.0 ∙ sym one.1.1, two.0 ∙ sym one.0, both.1)
-one_console first console.Direct argument a b x y before now left r s alike good fine one two =
-    let both = one_direct first a b x y (argument % 256) one.1.0 two.1.0 alike (outcome_good one.1.0 r one.1.1 good) (outcome_good two.1.0 s two.1.1 fine) one.1.2 two.1.2 in
+one_console viewed console.Direct argument a b x y before now left r s alike good fine one two =
+    let both = one_direct viewed a b x y (argument % 256) one.1.0 two.1.0 alike (outcome_good one.1.0 r one.1.1 good) (outcome_good two.1.0 s two.1.1 fine) one.1.2 two.1.2 in
     (two.1.1 ∙ ap answered both.0 ∙ sym one.1.1, two.0 ∙ sym one.0, both.1)
-one_console first console.PrintString argument a b x y before now left r s alike good fine one two =
+one_console viewed console.PrintString argument a b x y before now left r s alike good fine one two =
     let talks : printed b argument before ≡ printed a argument before = ap (λ c. talk (map Put (text_shown c (before_dollar (bytes_from (slice_index before) argument 65536)))) (Ok tt)) alike.column in
-    let both = one_talk first a b x y (printed a argument before) (printed b argument before) one.1.0 two.1.0 alike talks (done_good one.1.0 r one.1.1 good) (done_good two.1.0 s two.1.1 fine) one.1.2 two.1.2 in
+    let both = one_talk viewed a b x y (printed a argument before) (printed b argument before) one.1.0 two.1.0 alike talks (done_good one.1.0 r one.1.1 good) (done_good two.1.0 s two.1.1 fine) one.1.2 two.1.2 in
     (two.1.1 ∙ ap nothing_answered both.0 ∙ sym one.1.1, two.0 ∙ sym one.0, both.1)
-one_console first console.ReadLine argument a b x y before now left r s alike good fine one two =
+one_console viewed console.ReadLine argument a b x y before now left r s alike good fine one two =
     let room = memory_byte argument before in
     let lines : typed_line room b ≡ typed_line room a = ap (λ c. line_transcript room (record { bytes = []; start = c; column = c }) b.dialog.input) alike.column ∙ ap (line_transcript room (record { bytes = []; start = a.column; column = a.column })) alike.dialog.input in
-    one_line first (typed_line room a) (typed_line room b) argument a b x y before now left r s alike lines good fine one two
-one_console first console.Status argument a b x y before now left r s alike good fine one two = (
+    one_line viewed (typed_line room a) (typed_line room b) argument a b x y before now left r s alike lines good fine one two
+one_console viewed console.Status argument a b x y before now left r s alike good fine one two = (
   two.2 ∙ ap (λ i. Ok (reply.Value (readiness i))) alike.dialog.input ∙ sym one.2,
   two.0 ∙ sym one.0,
-  alike_screens first a b x y one.1 two.1 alike,
+  alike_screens viewed a b x y one.1 two.1 alike,
 )
 
 -- the user stays below 32
@@ -201,31 +201,31 @@ input_good outcome r is good = (λ e. good.0 (is ∙ ap input_answer e), λ e. g
 output_good : (outcome : Result ⊤ Stop) (r : Result After Stop) → r ≡ output_answered outcome → HasNotFailed r → HasNotFailed outcome
 output_good outcome r is good = (λ e. good.0 (is ∙ ap output_answered e), λ e. good.1 (is ∙ ap output_answered e))
 
-one_entry : (first : Option (List ℕ)) (entry : BiosEntry) (a b x y : Screen) (cpu shown seen : Cpu) (r s : Result After Stop) → AlikeScreens first a b → HasNotFailed r → HasNotFailed s
-    → EntryAnswers entry a x cpu shown r → EntryAnswers entry b y cpu seen s → (s ≡ r) × (seen ≡ shown) × AlikeScreens first x y
-one_entry first bios.ConsoleStatus a b x y cpu shown seen r s alike good fine one two = (
+one_entry : (viewed : Option (List ℕ × List ℕ)) (entry : BiosEntry) (a b x y : Screen) (cpu shown seen : Cpu) (r s : Result After Stop) → AlikeScreens viewed a b → HasNotFailed r → HasNotFailed s
+    → EntryAnswers entry a x cpu shown r → EntryAnswers entry b y cpu seen s → (s ≡ r) × (seen ≡ shown) × AlikeScreens viewed x y
+one_entry viewed bios.ConsoleStatus a b x y cpu shown seen r s alike good fine one two = (
   two.1 ∙ sym one.1,
   two.2 ∙ ap (λ i. with_accumulator (readiness i) cpu) alike.dialog.input ∙ sym one.2,
-  alike_screens first a b x y one.0 two.0 alike,
+  alike_screens viewed a b x y one.0 two.0 alike,
 )
-one_entry first bios.ConsoleInput a b x y cpu shown seen r s alike good fine one two =
+one_entry viewed bios.ConsoleInput a b x y cpu shown seen r s alike good fine one two =
     let p = inputs a x cpu shown one.0 r one.2 in
     let q = inputs b y cpu seen two.0 s two.2 in
-    let both = one_raw first a b x y one.0 two.0 alike (input_good one.0 r p.0 good) (input_good two.0 s q.0 fine) one.1 two.1 in
+    let both = one_raw viewed a b x y one.0 two.0 alike (input_good one.0 r p.0 good) (input_good two.0 s q.0 fine) one.1 two.1 in
     (q.0 ∙ ap input_answer both.0 ∙ sym p.0, q.1 ∙ ap (input_cpu cpu) both.0 ∙ sym p.1, both.1)
-one_entry first bios.ConsoleOutput a b x y cpu shown seen r s alike good fine one two =
-    let both = one_put first a b x y cpu.main.c one.0 two.0 alike (output_good one.0 r one.2 good) (output_good two.0 s two.2 fine) one.1 two.1 in
+one_entry viewed bios.ConsoleOutput a b x y cpu shown seen r s alike good fine one two =
+    let both = one_put viewed a b x y cpu.main.c one.0 two.0 alike (output_good one.0 r one.2 good) (output_good two.0 s two.2 fine) one.1 two.1 in
     (two.2 ∙ ap output_answered both.0 ∙ sym one.2, two.3 ∙ sym one.3, both.1)
 
-module _ {S C : Type 0} (sectors : S → Image) (faults : S → ℕ) (dialog : C → Dialog) (first : Option (List ℕ)) (old other new there : System S C) (alike : AlikeSystems sectors dialog first old other) where
+module _ {S C : Type 0} (sectors : S → Image) (faults : S → ℕ) (dialog : C → Dialog) (viewed : Option (List ℕ × List ℕ)) (old other new there : System S C) (alike : AlikeSystems sectors dialog viewed old other) where
   abbrev Same : {A : Type 0} → A → A → List ℕ → List ℕ → Type 0
-  Same r s now left = (s ≡ r) × (left ≡ now) × AlikeSystems sectors dialog first new there
+  Same r s now left = (s ≡ r) × (left ≡ now) × AlikeSystems sectors dialog viewed new there
 
   disk_is : beside old.disk other.disk.device ≡ other.disk
   disk_is = as_beside sectors old.disk other.disk alike.disk
 
   -- what a call of the console leaves
-  console_left : new ≡ record old { terminal = new.terminal } → there ≡ record other { terminal = there.terminal } → AlikeScreens first (screen dialog new.terminal) (screen dialog there.terminal) → AlikeSystems sectors dialog first new there
+  console_left : new ≡ record old { terminal = new.terminal } → there ≡ record other { terminal = there.terminal } → AlikeScreens viewed (screen dialog new.terminal) (screen dialog there.terminal) → AlikeSystems sectors dialog viewed new there
   console_left one two screens = record {
     disk = alike_as sectors old.disk other.disk new.disk there.disk (sym (ap (λ s. s.disk) one)) (sym (ap (λ s. s.disk) two)) alike.disk;
     screen = screens;
@@ -236,10 +236,10 @@ module _ {S C : Type 0} (sectors : S → Image) (faults : S → ℕ) (dialog : C
   }
 
   -- what a call of the disk leaves
-  disk_left : new ≡ record old { disk = new.disk } → there ≡ record other { disk = there.disk } → AlikeDisks sectors new.disk there.disk → AlikeSystems sectors dialog first new there
+  disk_left : new ≡ record old { disk = new.disk } → there ≡ record other { disk = there.disk } → AlikeDisks sectors new.disk there.disk → AlikeSystems sectors dialog viewed new there
   disk_left one two disks = record {
     disk = disks;
-    screen = alike_screens first (screen dialog old.terminal) (screen dialog other.terminal) (screen dialog new.terminal) (screen dialog there.terminal) (ap (λ s. screen dialog s.terminal) one) (ap (λ s. screen dialog s.terminal) two) alike.screen;
+    screen = alike_screens viewed (screen dialog old.terminal) (screen dialog other.terminal) (screen dialog new.terminal) (screen dialog there.terminal) (ap (λ s. screen dialog s.terminal) one) (ap (λ s. screen dialog s.terminal) two) alike.screen;
     dma = ap (λ s. s.dma) two ∙ alike.dma ∙ sym (ap (λ s. s.dma) one);
     user = ap (λ s. s.user) two ∙ alike.user ∙ sym (ap (λ s. s.user) one);
     search = ap (λ s. s.search) two ∙ alike.search ∙ sym (ap (λ s. s.search) one);
@@ -249,9 +249,9 @@ module _ {S C : Type 0} (sectors : S → Image) (faults : S → ℕ) (dialog : C
   pub one_function : (f : Function) (argument : ℕ) (before now left : List ℕ) (r s : Result Reply Stop) → HasNotFailed r → HasNotFailed s
       → Answers sectors faults dialog f argument old new before now r → Answers sectors faults dialog f argument other there before left s → Same r s now left
   one_function function.SystemReset argument before now left r s good fine one two =
-      (two.2 ∙ sym one.2, two.1 ∙ sym one.1, subst (AlikeSystems sectors dialog first new) (sym two.0) (subst (λ m. AlikeSystems sectors dialog first m other) (sym one.0) alike))
+      (two.2 ∙ sym one.2, two.1 ∙ sym one.1, subst (AlikeSystems sectors dialog viewed new) (sym two.0) (subst (λ m. AlikeSystems sectors dialog viewed m other) (sym one.0) alike))
   one_function (function.Console call) argument before now left r s good fine one two =
-      let both = one_console first call argument (screen dialog old.terminal) (screen dialog other.terminal) (screen dialog new.terminal) (screen dialog there.terminal) before now left r s alike.screen good fine one.1 two.1 in
+      let both = one_console viewed call argument (screen dialog old.terminal) (screen dialog other.terminal) (screen dialog new.terminal) (screen dialog there.terminal) before now left r s alike.screen good fine one.1 two.1 in
       (both.0, both.1, console_left one.0 two.0 both.2)
   one_function (function.Setting call) argument before now left r s good fine one two =
       let set = subst (λ d. SettingAnswers call argument d other.user there.dma there.user two.2.0) alike.dma two.2.2 in
@@ -260,7 +260,7 @@ module _ {S C : Type 0} (sectors : S → Image) (faults : S → ℕ) (dialog : C
         two.1 ∙ sym one.1,
         record {
           disk = alike_as sectors old.disk other.disk new.disk there.disk (sym (ap (λ s. s.disk) one.0)) (sym (ap (λ s. s.disk) two.0)) alike.disk;
-          screen = alike_screens first (screen dialog old.terminal) (screen dialog other.terminal) (screen dialog new.terminal) (screen dialog there.terminal) (ap (λ s. screen dialog s.terminal) one.0) (ap (λ s. screen dialog s.terminal) two.0) alike.screen;
+          screen = alike_screens viewed (screen dialog old.terminal) (screen dialog other.terminal) (screen dialog new.terminal) (screen dialog there.terminal) (ap (λ s. screen dialog s.terminal) one.0) (ap (λ s. screen dialog s.terminal) two.0) alike.screen;
           dma = both.1;
           user = both.2;
           search = ap (λ s. s.search) two.0 ∙ alike.search ∙ sym (ap (λ s. s.search) one.0);
@@ -277,7 +277,7 @@ module _ {S C : Type 0} (sectors : S → Image) (faults : S → ℕ) (dialog : C
         both.1,
         record {
           disk = alike_as sectors old.disk other.disk new.disk there.disk (sym (ap (λ s. s.disk) one.0)) (sym (ap (λ s. s.disk) two.0)) alike.disk;
-          screen = alike_screens first (screen dialog old.terminal) (screen dialog other.terminal) (screen dialog new.terminal) (screen dialog there.terminal) (ap (λ s. screen dialog s.terminal) one.0) (ap (λ s. screen dialog s.terminal) two.0) alike.screen;
+          screen = alike_screens viewed (screen dialog old.terminal) (screen dialog other.terminal) (screen dialog new.terminal) (screen dialog there.terminal) (ap (λ s. screen dialog s.terminal) one.0) (ap (λ s. screen dialog s.terminal) two.0) alike.screen;
           dma = ap (λ s. s.dma) two.0 ∙ alike.dma ∙ sym (ap (λ s. s.dma) one.0);
           user = ap (λ s. s.user) two.0 ∙ alike.user ∙ sym (ap (λ s. s.user) one.0);
           search = both.2;
@@ -321,20 +321,20 @@ module _ {S C : Type 0} (sectors : S → Image) (faults : S → ℕ) (dialog : C
 
   pub one_known : (f : Option Function) (cpu shown seen : Cpu) (before now left : List ℕ) (r s : Result After Stop) → HasNotFailed r → HasNotFailed s
       → KnownAnswers sectors faults dialog f old new cpu shown before now r → KnownAnswers sectors faults dialog f other there cpu seen before left s
-      → (s ≡ r) × (seen ≡ shown) × (left ≡ now) × AlikeSystems sectors dialog first new there
+      → (s ≡ r) × (seen ≡ shown) × (left ≡ now) × AlikeSystems sectors dialog viewed new there
   one_known (Some f) cpu shown seen before now left r s good fine one two =
       let both = one_function f (de cpu.main) before now left one.0 two.0 (seen_good cpu shown one.0 r one.2 good) (seen_good cpu seen two.0 s two.2 fine) one.1 two.1 in
       let p = sees cpu shown one.0 r one.2 in
       let q = sees cpu seen two.0 s two.2 in
       (q.0 ∙ ap seen_answer both.0 ∙ sym p.0, q.1 ∙ ap (seen_cpu cpu) both.0 ∙ sym p.1, both.1, both.2)
   one_known None cpu shown seen before now left r s good fine one two =
-      (two.0 ∙ sym one.0, two.2 ∙ sym one.2, two.3 ∙ sym one.3, subst (AlikeSystems sectors dialog first new) (sym two.1) (subst (λ m. AlikeSystems sectors dialog first m other) (sym one.1) alike))
+      (two.0 ∙ sym one.0, two.2 ∙ sym one.2, two.3 ∙ sym one.3, subst (AlikeSystems sectors dialog viewed new) (sym two.1) (subst (λ m. AlikeSystems sectors dialog viewed m other) (sym one.1) alike))
 
   pub one_known_entry : (entry : Option BiosEntry) (number : ℕ) (cpu shown seen : Cpu) (r s : Result After Stop) → HasNotFailed r → HasNotFailed s
       → KnownEntry dialog entry old new number cpu shown r → KnownEntry dialog entry other there number cpu seen s
-      → (s ≡ r) × (seen ≡ shown) × AlikeSystems sectors dialog first new there
+      → (s ≡ r) × (seen ≡ shown) × AlikeSystems sectors dialog viewed new there
   one_known_entry (Some entry) number cpu shown seen r s good fine one two =
-      let both = one_entry first entry (screen dialog old.terminal) (screen dialog other.terminal) (screen dialog new.terminal) (screen dialog there.terminal) cpu shown seen r s alike.screen good fine one.1 two.1 in
+      let both = one_entry viewed entry (screen dialog old.terminal) (screen dialog other.terminal) (screen dialog new.terminal) (screen dialog there.terminal) cpu shown seen r s alike.screen good fine one.1 two.1 in
       (both.0, both.1, console_left one.0 two.0 both.2)
   one_known_entry None number cpu shown seen r s good fine one two =
-      (two.0 ∙ sym one.0, two.2 ∙ sym one.2, subst (AlikeSystems sectors dialog first new) (sym two.1) (subst (λ m. AlikeSystems sectors dialog first m other) (sym one.1) alike))
+      (two.0 ∙ sym one.0, two.2 ∙ sym one.2, subst (AlikeSystems sectors dialog viewed new) (sym two.1) (subst (λ m. AlikeSystems sectors dialog viewed m other) (sym one.1) alike))

@@ -1,5 +1,5 @@
 -- A call of consoles that look alike has one answer, and leaves consoles that look alike.
-use Rattle.std.proofs.Common.{◌≡◌, ◌⊎◌, ◌==◌, ℕ, Bool, true, false, List, [], ◌∷◌, ◌++◌, Option, Some, None, Result, Ok, Err, refl, sym, ap, subst, ◌∙◌, inl, inr}
+use Rattle.std.proofs.Common.{append_assoc, ◌≡◌, ◌⊎◌, ◌==◌, ℕ, Bool, true, false, List, [], ◌∷◌, ◌++◌, Option, Some, None, Result, Ok, Err, refl, sym, ap, subst, ◌∙◌, inl, inr}
 use Rattle.std.specs.Prelude.{⊤}
 use Rattle.std.specs.Io.KnownBytes.{Appends}
 use Rattle.cpm_console.specs.Dialog.{Dialog, Event, Passes, PassesUnfailed, Put, Took, put_by, taken_by}
@@ -22,28 +22,28 @@ append_cancel (b ∷ bytes) xs ys e = append_cancel bytes xs ys (tails b (bytes 
   tails b us vs same = cc
 
 -- known bytes stay known, and grow by the same bytes
-appended : (first a b x y : Option (List ℕ)) (bytes : List ℕ) → SameIfKnown first a b → Appends a x bytes → Appends b y bytes → SameIfKnown first x y
+appended : (viewed : Option (List ℕ × List ℕ)) (a b x y : Option (List ℕ)) (bytes : List ℕ) → SameIfKnown viewed a b → Appends a x bytes → Appends b y bytes → SameIfKnown viewed x y
 appended None a b x y bytes same one two = tt
-appended (Some first) a b x y bytes same one two =
-    let p = known (same.0) x bytes (subst (λ o. Appends o x bytes) same.1 one) in
-    let q = known (same.0) y bytes (subst (λ o. Appends o y bytes) same.2 two) in
-    (same.0 ++ bytes, p, q)
+appended (Some (seen, other)) a b x y bytes same one two =
+    let p = known same.0 x bytes (subst (λ o. Appends o x bytes) same.2 one) in
+    let q = known same.1 y bytes (subst (λ o. Appends o y bytes) same.3 two) in
+    (same.0 ++ bytes, same.1 ++ bytes, p, q, sym (append_assoc other same.1 bytes) ∙ ap (λ l. l ++ bytes) same.4 ∙ append_assoc seen same.0 bytes)
   where
     known : (xs : List ℕ) (o : Option (List ℕ)) (more : List ℕ) → Appends (Some xs) o more → o ≡ Some (xs ++ more)
     known xs None more h = absurd h
     known xs (Some ys) more h = ap Some h
 
 -- the same bytes pass
-dialogs_alike : (first : Option (List ℕ)) (a b x y : Dialog) (events : List Event) → AlikeDialogs first a b → Passes a x events → x.faults ≡ a.faults → Passes b y events → y.faults ≡ b.faults → AlikeDialogs first x y
-dialogs_alike first a b x y events alike one same two still = record {
+dialogs_alike : (viewed : Option (List ℕ × List ℕ)) (a b x y : Dialog) (events : List Event) → AlikeDialogs viewed a b → Passes a x events → x.faults ≡ a.faults → Passes b y events → y.faults ≡ b.faults → AlikeDialogs viewed x y
+dialogs_alike viewed a b x y events alike one same two still = record {
   input = append_cancel (taken_by events) y.input x.input (sym two.input ∙ alike.input ∙ one.input);
-  output = appended first a.output b.output x.output y.output (put_by events) alike.output one.output two.output;
+  output = appended viewed a.output b.output x.output y.output (put_by events) alike.output one.output two.output;
   faults = still ∙ alike.faults ∙ sym same;
 }
 
-pub does_alike : (first : Option (List ℕ)) (a b x y : Screen) (events : List Event) → AlikeScreens first a b → Does a x events → Does b y events → AlikeScreens first x y
-does_alike first a b x y events alike one two = record {
-  dialog = dialogs_alike first a.dialog b.dialog x.dialog y.dialog events alike.dialog one.passed one.unfailed two.passed two.unfailed;
+pub does_alike : (viewed : Option (List ℕ × List ℕ)) (a b x y : Screen) (events : List Event) → AlikeScreens viewed a b → Does a x events → Does b y events → AlikeScreens viewed x y
+does_alike viewed a b x y events alike one two = record {
+  dialog = dialogs_alike viewed a.dialog b.dialog x.dialog y.dialog events alike.dialog one.passed one.unfailed two.passed two.unfailed;
   column = two.column ∙ ap (λ k. column_after k (put_by events)) alike.column ∙ sym one.column;
 }
 
@@ -59,12 +59,12 @@ spoke old new t (Err stop.EndOfInput) good h = h
 spoke old new t (Err stop.UnknownDrive) good h = h
 spoke old new t (Err (stop.UnsupportedBios n)) good h = h
 
-pub one_talk : {A : Type 0} (first : Option (List ℕ)) (a b x y : Screen) (t u : Talk A) (r s : Result A Stop) → AlikeScreens first a b → u ≡ t → HasNotFailed r → HasNotFailed s → Speaks a x t r → Speaks b y u s
-    → (s ≡ r) × AlikeScreens first x y
-one_talk first a b x y t u r s alike e good fine one two =
+pub one_talk : {A : Type 0} (viewed : Option (List ℕ × List ℕ)) (a b x y : Screen) (t u : Talk A) (r s : Result A Stop) → AlikeScreens viewed a b → u ≡ t → HasNotFailed r → HasNotFailed s → Speaks a x t r → Speaks b y u s
+    → (s ≡ r) × AlikeScreens viewed x y
+one_talk viewed a b x y t u r s alike e good fine one two =
     let p = spoke a x t r good one in
     let q = spoke b y t s fine (subst (λ v. Speaks b y v s) e two) in
-    (sym q.0 ∙ p.0, does_alike first a b x y t.events alike p.1 q.1)
+    (sym q.0 ∙ p.0, does_alike viewed a b x y t.events alike p.1 q.1)
 
 -- the next byte is taken, or there is none
 took : (old new : Screen) (r : Result ℕ Stop) → HasNotFailed r → TakesRaw old new r
@@ -80,9 +80,9 @@ took old new (Err stop.DiskFault) good h = absurd h
 took old new (Err stop.UnknownDrive) good h = absurd h
 took old new (Err (stop.UnsupportedBios n)) good h = absurd h
 
-raw_alike : (first : Option (List ℕ)) (a b x y : Screen) (events : List Event) → AlikeScreens first a b → PassesUnfailed a.dialog x.dialog events → x.column ≡ a.column → PassesUnfailed b.dialog y.dialog events → y.column ≡ b.column → AlikeScreens first x y
-raw_alike first a b x y events alike one here two there = record {
-  dialog = dialogs_alike first a.dialog b.dialog x.dialog y.dialog events alike.dialog one.passed one.unfailed two.passed two.unfailed;
+raw_alike : (viewed : Option (List ℕ × List ℕ)) (a b x y : Screen) (events : List Event) → AlikeScreens viewed a b → PassesUnfailed a.dialog x.dialog events → x.column ≡ a.column → PassesUnfailed b.dialog y.dialog events → y.column ≡ b.column → AlikeScreens viewed x y
+raw_alike viewed a b x y events alike one here two there = record {
+  dialog = dialogs_alike viewed a.dialog b.dialog x.dialog y.dialog events alike.dialog one.passed one.unfailed two.passed two.unfailed;
   column = there ∙ alike.column ∙ sym here;
 }
 
@@ -92,17 +92,17 @@ heads b c us vs same = cc
 no_head : {A : Type 0} (b : ℕ) (us : List ℕ) → (b ∷ us) ≡ [] → A
 no_head b us same = absurd cc
 
-pub one_raw : (first : Option (List ℕ)) (a b x y : Screen) (r s : Result ℕ Stop) → AlikeScreens first a b → HasNotFailed r → HasNotFailed s → TakesRaw a x r → TakesRaw b y s → (s ≡ r) × AlikeScreens first x y
-one_raw first a b x y r s alike good fine one two = both (took a x r good one) (took b y s fine two) where
+pub one_raw : (viewed : Option (List ℕ × List ℕ)) (a b x y : Screen) (r s : Result ℕ Stop) → AlikeScreens viewed a b → HasNotFailed r → HasNotFailed s → TakesRaw a x r → TakesRaw b y s → (s ≡ r) × AlikeScreens viewed x y
+one_raw viewed a b x y r s alike good fine one two = both (took a x r good one) (took b y s fine two) where
   both : ((byte : ℕ) × (r ≡ Ok byte) × PassesUnfailed a.dialog x.dialog (Took byte ∷ []) × (x.column ≡ a.column)) ⊎ ((r ≡ Err stop.EndOfInput) × (a.dialog.input ≡ []) × PassesUnfailed a.dialog x.dialog [] × (x.column ≡ a.column))
       → ((byte : ℕ) × (s ≡ Ok byte) × PassesUnfailed b.dialog y.dialog (Took byte ∷ []) × (y.column ≡ b.column)) ⊎ ((s ≡ Err stop.EndOfInput) × (b.dialog.input ≡ []) × PassesUnfailed b.dialog y.dialog [] × (y.column ≡ b.column))
-      → (s ≡ r) × AlikeScreens first x y
+      → (s ≡ r) × AlikeScreens viewed x y
   both (inl p) (inl q) =
       let e : q.0 ≡ p.0 = heads q.0 p.0 y.dialog.input x.dialog.input (sym q.2.passed.input ∙ alike.dialog.input ∙ p.2.passed.input) in
-      (q.1 ∙ ap Ok e ∙ sym p.1, raw_alike first a b x y (Took p.0 ∷ []) alike p.2 p.3 (subst (λ k. PassesUnfailed b.dialog y.dialog (Took k ∷ [])) e q.2) q.3)
+      (q.1 ∙ ap Ok e ∙ sym p.1, raw_alike viewed a b x y (Took p.0 ∷ []) alike p.2 p.3 (subst (λ k. PassesUnfailed b.dialog y.dialog (Took k ∷ [])) e q.2) q.3)
   both (inl p) (inr q) = no_head p.0 x.dialog.input (sym p.2.passed.input ∙ sym alike.dialog.input ∙ q.1)
   both (inr p) (inl q) = no_head q.0 y.dialog.input (sym q.2.passed.input ∙ alike.dialog.input ∙ p.1)
-  both (inr p) (inr q) = (q.0 ∙ sym p.0, raw_alike first a b x y [] alike p.2 p.3 q.2 q.3)
+  both (inr p) (inr q) = (q.0 ∙ sym p.0, raw_alike viewed a b x y [] alike p.2 p.3 q.2 q.3)
 
 -- a byte is put
 put : (old new : Screen) (byte : ℕ) (r : Result ⊤ Stop) → HasNotFailed r → PutsRaw old new byte r → (r ≡ Ok tt) × PassesUnfailed old.dialog new.dialog (Put byte ∷ []) × (new.column ≡ old.column)
@@ -116,11 +116,11 @@ put old new byte (Err stop.DiskFault) good h = absurd h
 put old new byte (Err stop.UnknownDrive) good h = absurd h
 put old new byte (Err (stop.UnsupportedBios n)) good h = absurd h
 
-pub one_put : (first : Option (List ℕ)) (a b x y : Screen) (byte : ℕ) (r s : Result ⊤ Stop) → AlikeScreens first a b → HasNotFailed r → HasNotFailed s → PutsRaw a x byte r → PutsRaw b y byte s → (s ≡ r) × AlikeScreens first x y
-one_put first a b x y byte r s alike good fine one two =
+pub one_put : (viewed : Option (List ℕ × List ℕ)) (a b x y : Screen) (byte : ℕ) (r s : Result ⊤ Stop) → AlikeScreens viewed a b → HasNotFailed r → HasNotFailed s → PutsRaw a x byte r → PutsRaw b y byte s → (s ≡ r) × AlikeScreens viewed x y
+one_put viewed a b x y byte r s alike good fine one two =
     let p = put a x byte r good one in
     let q = put b y byte s fine two in
-    (q.0 ∙ sym p.0, raw_alike first a b x y (Put byte ∷ []) alike p.1 p.2 q.1 q.2)
+    (q.0 ∙ sym p.0, raw_alike viewed a b x y (Put byte ∷ []) alike p.1 p.2 q.1 q.2)
 
 -- function 6
 put_direct : (old new : Screen) (byte : ℕ) (r : Result ℕ Stop) → HasNotFailed r → PutsDirect old new byte r → (r ≡ Ok 0) × PassesUnfailed old.dialog new.dialog (Put byte ∷ []) × (new.column ≡ old.column)
@@ -134,22 +134,22 @@ put_direct old new byte (Err stop.DiskFault) good h = absurd h
 put_direct old new byte (Err stop.UnknownDrive) good h = absurd h
 put_direct old new byte (Err (stop.UnsupportedBios n)) good h = absurd h
 
-pub alike_as : (first : Option (List ℕ)) (a b x y : Screen) → x ≡ a → y ≡ b → AlikeScreens first a b → AlikeScreens first x y
-alike_as first a b x y p q alike = subst (AlikeScreens first x) (sym q) (subst (λ s. AlikeScreens first s b) (sym p) alike)
+pub alike_as : (viewed : Option (List ℕ × List ℕ)) (a b x y : Screen) → x ≡ a → y ≡ b → AlikeScreens viewed a b → AlikeScreens viewed x y
+alike_as viewed a b x y p q alike = subst (AlikeScreens viewed x) (sym q) (subst (λ s. AlikeScreens viewed s b) (sym p) alike)
 
-one_any : (first : Option (List ℕ)) (input : List ℕ) (a b x y : Screen) (r s : Result ℕ Stop) → AlikeScreens first a b → HasNotFailed r → HasNotFailed s → TakesAny input a x r → TakesAny input b y s → (s ≡ r) × AlikeScreens first x y
-one_any first [] a b x y r s alike good fine one two = (two.0 ∙ sym one.0, alike_as first a b x y one.1 two.1 alike)
-one_any first (byte ∷ input) a b x y r s alike good fine one two = one_raw first a b x y r s alike good fine one two
+one_any : (viewed : Option (List ℕ × List ℕ)) (input : List ℕ) (a b x y : Screen) (r s : Result ℕ Stop) → AlikeScreens viewed a b → HasNotFailed r → HasNotFailed s → TakesAny input a x r → TakesAny input b y s → (s ≡ r) × AlikeScreens viewed x y
+one_any viewed [] a b x y r s alike good fine one two = (two.0 ∙ sym one.0, alike_as viewed a b x y one.1 two.1 alike)
+one_any viewed (byte ∷ input) a b x y r s alike good fine one two = one_raw viewed a b x y r s alike good fine one two
 
-one_asked : (first : Option (List ℕ)) (ask : Bool) (a b x y : Screen) (byte : ℕ) (r s : Result ℕ Stop) → AlikeScreens first a b → HasNotFailed r → HasNotFailed s → Asked ask a x byte r → Asked ask b y byte s → (s ≡ r) × AlikeScreens first x y
-one_asked first true a b x y byte r s alike good fine one two = one_any first a.dialog.input a b x y r s alike good fine one (subst (λ i. TakesAny i b y s) alike.dialog.input two)
-one_asked first false a b x y byte r s alike good fine one two =
+one_asked : (viewed : Option (List ℕ × List ℕ)) (ask : Bool) (a b x y : Screen) (byte : ℕ) (r s : Result ℕ Stop) → AlikeScreens viewed a b → HasNotFailed r → HasNotFailed s → Asked ask a x byte r → Asked ask b y byte s → (s ≡ r) × AlikeScreens viewed x y
+one_asked viewed true a b x y byte r s alike good fine one two = one_any viewed a.dialog.input a b x y r s alike good fine one (subst (λ i. TakesAny i b y s) alike.dialog.input two)
+one_asked viewed false a b x y byte r s alike good fine one two =
     let p = put_direct a x byte r good one in
     let q = put_direct b y byte s fine two in
-    (q.0 ∙ sym p.0, raw_alike first a b x y (Put byte ∷ []) alike p.1 p.2 q.1 q.2)
+    (q.0 ∙ sym p.0, raw_alike viewed a b x y (Put byte ∷ []) alike p.1 p.2 q.1 q.2)
 
-pub one_direct : (first : Option (List ℕ)) (a b x y : Screen) (byte : ℕ) (r s : Result ℕ Stop) → AlikeScreens first a b → HasNotFailed r → HasNotFailed s → Directs a x byte r → Directs b y byte s → (s ≡ r) × AlikeScreens first x y
-one_direct first a b x y byte r s alike good fine one two = one_asked first (byte == 0xFF) a b x y byte r s alike good fine one two
+pub one_direct : (viewed : Option (List ℕ × List ℕ)) (a b x y : Screen) (byte : ℕ) (r s : Result ℕ Stop) → AlikeScreens viewed a b → HasNotFailed r → HasNotFailed s → Directs a x byte r → Directs b y byte s → (s ≡ r) × AlikeScreens viewed x y
+one_direct viewed a b x y byte r s alike good fine one two = one_asked viewed (byte == 0xFF) a b x y byte r s alike good fine one two
 
 -- What function 10 answers for each end of a line, and the memory then.
 line_answer : ℕ → List ℕ → Ending → Result Reply Stop
@@ -177,9 +177,9 @@ read_line t address old new before now (Err stop.DiskFault) good h = absurd h
 read_line t address old new before now (Err stop.UnknownDrive) good h = absurd h
 read_line t address old new before now (Err (stop.UnsupportedBios n)) good h = absurd h
 
-pub one_line : (first : Option (List ℕ)) (t u : Transcript) (address : ℕ) (a b x y : Screen) (before now left : List ℕ) (r s : Result Reply Stop) → AlikeScreens first a b → u ≡ t → HasNotFailed r → HasNotFailed s
-    → ReadsLine t address a x before now r → ReadsLine u address b y before left s → (s ≡ r) × (left ≡ now) × AlikeScreens first x y
-one_line first t u address a b x y before now left r s alike e good fine one two =
+pub one_line : (viewed : Option (List ℕ × List ℕ)) (t u : Transcript) (address : ℕ) (a b x y : Screen) (before now left : List ℕ) (r s : Result Reply Stop) → AlikeScreens viewed a b → u ≡ t → HasNotFailed r → HasNotFailed s
+    → ReadsLine t address a x before now r → ReadsLine u address b y before left s → (s ≡ r) × (left ≡ now) × AlikeScreens viewed x y
+one_line viewed t u address a b x y before now left r s alike e good fine one two =
     let p = read_line t address a x before now r good one in
     let q = read_line t address b y before left s fine (subst (λ v. ReadsLine v address b y before left s) e two) in
-    (q.1 ∙ sym p.1, q.2 ∙ sym p.2, does_alike first a b x y t.events alike p.0 q.0)
+    (q.1 ∙ sym p.1, q.2 ∙ sym p.2, does_alike viewed a b x y t.events alike p.0 q.0)

@@ -1,6 +1,6 @@
 -- States of the system that look alike: to the program, to a reader of the image, and to the user of the console. Devices and consoles
 -- may have more in them than that; no definition sees it.
-use Rattle.std.specs.Prelude.{◌≡◌, ◌≢◌, ◌<◌, ℕ, List, Option, Some, None, Result, Err, ⊤}
+use Rattle.std.specs.Prelude.{◌≡◌, ◌≢◌, ◌<◌, ◌++◌, [], ℕ, List, Option, Some, None, Result, Err, ⊤}
 use Rattle.cpm_console.specs.Dialog.{Dialog}
 use Rattle.cpm_console.specs.Screen.{Screen, screen}
 use Rattle.cpm_directory.specs.declared.entry.TheConstants.{USERS}
@@ -24,23 +24,29 @@ pub record AlikeDisks {S : Type 0} (sectors : S → Image) (a b : Mounted S) : T
   pub image : SameImage a.kind (sectors a.device) (sectors b.device)
   pub sound : IsSound a.kind (directory a.kind (sectors a.device))
 
--- What was put on two consoles, given what the first had put at the beginning: if that is known, both are known and equal.
-abbrev pub SameIfKnown : Option (List ℕ) → Option (List ℕ) → Option (List ℕ) → Type 0
+-- What was put on two consoles, given what their users saw of each before that, if that is known: then both are known, and with what was seen
+-- before they are equal.
+abbrev pub SameIfKnown : Option (List ℕ × List ℕ) → Option (List ℕ) → Option (List ℕ) → Type 0
 SameIfKnown None a b = ⊤
-SameIfKnown (Some first) a b = (bytes : List ℕ) × (a ≡ Some bytes) × (b ≡ Some bytes)
+SameIfKnown (Some (seen, other)) a b = (put : List ℕ) × (also : List ℕ) × (a ≡ Some put) × (b ≡ Some also) × (other ++ also ≡ seen ++ put)
 
-pub record AlikeDialogs (first : Option (List ℕ)) (a b : Dialog) : Type 0 where
+-- Nothing was seen before, and what was put is known if it was known at the beginning.
+abbrev pub seen_nothing : Option (List ℕ) → Option (List ℕ × List ℕ)
+seen_nothing None = None
+seen_nothing (Some first) = Some ([], [])
+
+pub record AlikeDialogs (viewed : Option (List ℕ × List ℕ)) (a b : Dialog) : Type 0 where
   pub input : b.input ≡ a.input
-  pub output : SameIfKnown first a.output b.output
+  pub output : SameIfKnown viewed a.output b.output
   pub faults : b.faults ≡ a.faults
 
-pub record AlikeScreens (first : Option (List ℕ)) (a b : Screen) : Type 0 where
-  pub dialog : AlikeDialogs first a.dialog b.dialog
+pub record AlikeScreens (viewed : Option (List ℕ × List ℕ)) (a b : Screen) : Type 0 where
+  pub dialog : AlikeDialogs viewed a.dialog b.dialog
   pub column : b.column ≡ a.column
 
-pub record AlikeSystems {S C : Type 0} (sectors : S → Image) (dialog : C → Dialog) (first : Option (List ℕ)) (a b : System S C) : Type 0 where
+pub record AlikeSystems {S C : Type 0} (sectors : S → Image) (dialog : C → Dialog) (viewed : Option (List ℕ × List ℕ)) (a b : System S C) : Type 0 where
   pub disk : AlikeDisks sectors a.disk b.disk
-  pub screen : AlikeScreens first (screen dialog a.terminal) (screen dialog b.terminal)
+  pub screen : AlikeScreens viewed (screen dialog a.terminal) (screen dialog b.terminal)
   pub dma : b.dma ≡ a.dma
   pub user : b.user ≡ a.user
   pub search : b.search ≡ a.search

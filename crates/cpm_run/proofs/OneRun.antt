@@ -11,7 +11,7 @@ use Rattle.cpm_disk.specs.Calls.{Mounted}
 use Rattle.cpm_disk.specs.Image.{Image}
 use Rattle.cpm_fcb.specs.declared.stop.Stop.{Stop}
 use Rattle.cpm_fcb.specs.declared.stop.Stop.TheVariants as stop
-use Rattle.cpm_bdos.specs.Alike.{AlikeDialogs, AlikeDisks, AlikeSystems, HasNotFailed, SameIfKnown}
+use Rattle.cpm_bdos.specs.Alike.{AlikeDialogs, AlikeDisks, AlikeSystems, HasNotFailed, SameIfKnown, seen_nothing}
 use Rattle.cpm_bdos.specs.Functions.{bios_entry_of, function_of}
 use Rattle.cpm_bdos.specs.System.{new_system}
 use Rattle.cpm_bdos.specs.declared.outcome.After.{After}
@@ -35,10 +35,10 @@ OneStep = (one two : Step) (old new other : Machine) → IsStep one old new → 
 abbrev pub Goes_well : Option Why → Type 0
 Goes_well end = (end ≢ Some (why.Stopped stop.DiskFault)) × (end ≢ Some (why.Stopped stop.ConsoleFault))
 
-none_well : Goes_well None
+pub none_well : Goes_well None
 none_well = (λ e. absurd (let no_end : ◌≡◌ {A = Option Why} None (Some (why.Stopped stop.DiskFault)) = e in cc), λ e. absurd (let no_end : ◌≡◌ {A = Option Why} None (Some (why.Stopped stop.ConsoleFault)) = e in cc))
 
-some_well : (end : Why) → IsUndisturbed end → Goes_well (Some end)
+pub some_well : (end : Why) → IsUndisturbed end → Goes_well (Some end)
 some_well end calm = (λ e. calm.disk (same (why.Stopped stop.DiskFault) e), λ e. calm.console (same (why.Stopped stop.ConsoleFault) e)) where
   same : (other : Why) → ◌≡◌ {A = Option Why} (Some end) (Some other) → end ≡ other
   same other e = cc
@@ -64,21 +64,21 @@ came_well : (answer : Result After Stop) (end : Option Why) → end ≡ comes_en
 unfolding comes_end
 came_well answer end is well = (λ e. well.0 (is ∙ ap comes_end e), λ e. well.1 (is ∙ ap comes_end e))
 
-module _ {S C : Type 0} (sectors : S → Image) (faults : S → ℕ) (dialog : C → Dialog) (first : Option (List ℕ)) (one_step : OneStep) where
+module _ {S C : Type 0} (sectors : S → Image) (faults : S → ℕ) (dialog : C → Dialog) (viewed : Option (List ℕ × List ℕ)) (one_step : OneStep) where
   pub record AlikeRuns (a b : RunState S C) : Type 0 where
     pub machine : b.machine ≡ a.machine
-    pub system : AlikeSystems sectors dialog first a.system b.system
+    pub system : AlikeSystems sectors dialog viewed a.system b.system
 
   -- a state with the machine of another
   abbrev with_machine : Machine → RunState S C → RunState S C
   with_machine m s = record { machine = m; system = s.system }
 
-  turn_at : (place : Place) (a b x y : RunState S C) (o p : Option Why) → AlikeSystems sectors dialog first a.system b.system → Goes_well o → Goes_well p
+  turn_at : (place : Place) (a b x y : RunState S C) (o p : Option Why) → AlikeSystems sectors dialog viewed a.system b.system → Goes_well o → Goes_well p
       → TurnAt sectors faults dialog place a o x → TurnAt sectors faults dialog place (with_machine a.machine b) p y → (p ≡ o) × AlikeRuns x y
   turn_at Call a b x y o p alike well fine one two =
       let s = came one.0 one.1 one.2 o x.machine one.4 in
       let t = came two.0 two.1 two.2 p y.machine two.4 in
-      let both = one_known sectors faults dialog first a.system b.system x.system y.system alike (function_of a.machine.cpu.main.c) a.machine.cpu one.1 two.1 a.machine.memory one.2 two.2 one.0 two.0
+      let both = one_known sectors faults dialog viewed a.system b.system x.system y.system alike (function_of a.machine.cpu.main.c) a.machine.cpu one.1 two.1 a.machine.memory one.2 two.2 one.0 two.0
       (came_well one.0 o s.0 well) (came_well two.0 p t.0 fine) one.3 two.3 in (
         t.0 ∙ ap comes_end both.0 ∙ sym s.0,
         record {
@@ -89,7 +89,7 @@ module _ {S C : Type 0} (sectors : S → Image) (faults : S → ℕ) (dialog : C
   turn_at (Entry n) a b x y o p alike well fine one two =
       let s = came one.0 one.1 a.machine.memory o x.machine one.3 in
       let t = came two.0 two.1 a.machine.memory p y.machine two.3 in
-      let both = one_known_entry sectors faults dialog first a.system b.system x.system y.system alike (bios_entry_of n) n a.machine.cpu one.1 two.1 one.0 two.0
+      let both = one_known_entry sectors faults dialog viewed a.system b.system x.system y.system alike (bios_entry_of n) n a.machine.cpu one.1 two.1 one.0 two.0
       (came_well one.0 o s.0 well) (came_well two.0 p t.0 fine) one.2 two.2 in (
         t.0 ∙ ap comes_end both.0 ∙ sym s.0,
         record {
@@ -102,12 +102,12 @@ module _ {S C : Type 0} (sectors : S → Image) (faults : S → ℕ) (dialog : C
         two.3 ∙ ap step_end (sym both.0) ∙ sym one.3,
         record {
           machine = sym both.1;
-          system = subst (AlikeSystems sectors dialog first x.system) (sym two.2) (subst (λ s. AlikeSystems sectors dialog first s b.system) (sym one.2) alike);
+          system = subst (AlikeSystems sectors dialog viewed x.system) (sym two.2) (subst (λ s. AlikeSystems sectors dialog viewed s b.system) (sym one.2) alike);
         },
       )
 
   -- a step from states that look alike
-  one_turn : (a b x y : RunState S C) (o p : Option Why) → AlikeRuns a b → Goes_well o → Goes_well p → IsTurn sectors faults dialog a o x → IsTurn sectors faults dialog b p y → (p ≡ o) × AlikeRuns x y
+  pub one_turn : (a b x y : RunState S C) (o p : Option Why) → AlikeRuns a b → Goes_well o → Goes_well p → IsTurn sectors faults dialog a o x → IsTurn sectors faults dialog b p y → (p ≡ o) × AlikeRuns x y
   one_turn a b x y o p alike well fine one two =
       turn_at (place_at_pc a.machine.cpu.pc) a b x y o p alike.system well fine one
       (subst (λ m. IsTurn sectors faults dialog (with_machine m b) p y) alike.machine two)
@@ -230,33 +230,33 @@ had_memory : (refused : StartFault) (end : Why) → end ≡ unstarted refused �
 had_memory refused end is calm e = calm.memory (is ∙ ap unstarted e)
 
 module _ {S C : Type 0} (sectors : S → Image) (faults : S → ℕ) (dialog : C → Dialog) (one_step : OneStep) where
-  known_alike : (output : Option (List ℕ)) → SameIfKnown output output output
+  known_alike : (output : Option (List ℕ)) → SameIfKnown (seen_nothing output) output output
   known_alike None = tt
-  known_alike (Some bytes) = (bytes, refl, refl)
+  known_alike (Some bytes) = (bytes, bytes, refl, refl, refl)
 
-  dialogs : (a b : Dialog) → b ≡ a → AlikeDialogs a.output a b
-  dialogs a b e = subst (AlikeDialogs a.output a) (sym e) (record { input = refl; output = known_alike a.output; faults = refl })
+  dialogs : (a b : Dialog) → b ≡ a → AlikeDialogs (seen_nothing a.output) a b
+  dialogs a b e = subst (AlikeDialogs (seen_nothing a.output) a) (sym e) (record { input = refl; output = known_alike a.output; faults = refl })
 
   pub one_run : (file : List ℕ) (words : List (List ℕ)) (disk other left there : Mounted S) (console second kept held : C) (limit turns steps pc address : ℕ) (end cause : Why) → AlikeDisks sectors disk other → dialog second ≡ dialog console
       → IsUndisturbed end → IsUndisturbed cause
       → IsRun sectors faults dialog file words disk console limit end turns pc left kept → IsRun sectors faults dialog file words other second limit cause steps address there held
-      → (cause ≡ end) × (steps ≡ turns) × (address ≡ pc) × AlikeDisks sectors left there × AlikeDialogs (dialog console).output (dialog kept) (dialog held)
+      → (cause ≡ end) × (steps ≡ turns) × (address ≡ pc) × AlikeDisks sectors left there × AlikeDialogs (seen_nothing (dialog console).output) (dialog kept) (dialog held)
   one_run file words disk other left there console second kept held limit turns steps pc address end cause disks same calm quiet (inl h) (inl k) =
-      let first = (dialog console).output in
+      let viewed = seen_nothing (dialog console).output in
       let cpus : k.0 ≡ h.0 = k.3.2 ∙ sym h.3.2 in
       let memories : k.1 ≡ h.1 = k.3.3 ∙ sym h.3.3 in
       let start : RunState S C = record { machine = machine h.0 h.1; system = new_system disk console } in
       let beginning : RunState S C = record { machine = machine k.0 k.1; system = new_system other second } in
-      let alike : AlikeRuns sectors faults dialog first one_step start beginning = record {
+      let alike : AlikeRuns sectors faults dialog viewed one_step start beginning = record {
         machine = ap (λ c. machine c k.1) cpus ∙ ap (machine h.0) memories;
         system = record { disk = disks; screen = record { dialog = dialogs (dialog console) (dialog second) same; column = refl }; dma = refl; user = refl; search = refl; within = omega arith };
       } in
-      let both = one_end sectors faults dialog first one_step limit start beginning h.2 k.2 end cause turns steps alike calm quiet h.4 k.4 in (
+      let both = one_end sectors faults dialog viewed one_step limit start beginning h.2 k.2 end cause turns steps alike calm quiet h.4 k.4 in (
         both.0,
         both.1,
         k.5 ∙ ap (λ m. m.cpu.pc) both.2.machine ∙ sym h.5,
         subst (AlikeDisks sectors left) (sym k.6) (subst (λ d. AlikeDisks sectors d k.2.system.disk) (sym h.6) both.2.system.disk),
-        subst (λ c. AlikeDialogs first (dialog kept) (dialog c)) (sym k.7) (subst (λ c. AlikeDialogs first (dialog c) (dialog k.2.system.terminal.console)) (sym h.7) both.2.system.screen.dialog),
+        subst (λ c. AlikeDialogs viewed (dialog kept) (dialog c)) (sym k.7) (subst (λ c. AlikeDialogs viewed (dialog c) (dialog k.2.system.terminal.console)) (sym h.7) both.2.system.screen.dialog),
       )
   one_run file words disk other left there console second kept held limit turns steps pc address end cause disks same calm quiet (inl h) (inr k) =
       not_both file words (h.0, h.1) k.0 (had_memory k.0 cause k.2 quiet) h.3 k.1
@@ -268,5 +268,5 @@ module _ {S C : Type 0} (sectors : S → Image) (faults : S → ℕ) (dialog : C
         k.3 ∙ sym h.3,
         k.4 ∙ sym h.4,
         subst (AlikeDisks sectors left) (sym k.5) (subst (λ d. AlikeDisks sectors d other) (sym h.5) disks),
-        subst (λ c. AlikeDialogs (dialog console).output (dialog kept) (dialog c)) (sym k.6) (subst (λ c. AlikeDialogs (dialog console).output (dialog c) (dialog second)) (sym h.6) (dialogs (dialog console) (dialog second) same)),
+        subst (λ c. AlikeDialogs (seen_nothing (dialog console).output) (dialog kept) (dialog c)) (sym k.6) (subst (λ c. AlikeDialogs (seen_nothing (dialog console).output) (dialog c) (dialog second)) (sym h.6) (dialogs (dialog console) (dialog second) same)),
       )

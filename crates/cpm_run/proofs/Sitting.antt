@@ -1,8 +1,12 @@
 -- How sessions at a keyboard go on.
-use Rattle.std.proofs.Common.{◌≡◌, ◌≢◌, ◌++◌, ◌+◌, [], inl, ℕ, List, Option, None, Some, refl, sym, ap, subst, ◌∙◌, append_assoc, append-nil, arith, false}
-use Rattle.std.proofs.KnownBytes.{Appends-trans}
-use Rattle.std.specs.Io.KnownBytes.{Appends}
+use Rattle.std.proofs.Common.{◌∷◌, map, ◌<◌, length, take, inr, ◌≡◌, ◌≢◌, ◌++◌, ◌+◌, [], inl, ℕ, List, Option, None, Some, Result, Ok, Err, refl, sym, ap, subst, ◌∙◌, append_assoc, append-nil, arith, false}
+use Rattle.std.proofs.lemmas.Bool.{cases_lt}
+use Rattle.std.proofs.lemmas.List.{map-append, take_all}
+use Rattle.std.specs.Prelude.{min}
+use Rattle.std.proofs.KnownBytes.{Appends-nil, Appends-trans, Consumes-nil, Consumes-trans}
+use Rattle.std.specs.Io.KnownBytes.{Appends, Consumes}
 use Rattle.z80_cpu.specs.State.{Machine}
+use Rattle.z80_cpu.specs.declared.registers.Cpu.{Cpu}
 use Rattle.z80_machine.specs.Run.{Ended, Ran, Turns}
 use Rattle.z80_machine.specs.Types.{Step}
 use Rattle.z80_machine.specs.declared.runs.Stop.{Stop}
@@ -12,13 +16,14 @@ use Rattle.cpm_bdos.specs.System.{System, with_console}
 use Rattle.cpm_run.specs.declared.ending.Why.{Why}
 use Rattle.cpm_run.specs.Turns.{Goes, IsTurn, RunState, is_finished, step_end}
 use Rattle.cpm_run.specs.Turns.Goes.{none, more}
-use Rattle.cpm_run.specs.Play.{EndsBy, IsShown, PlayEnds, PlayState, PlaysOn, arrived}
+use Rattle.cpm_run.specs.Play.{Arrives, EndsBy, PlayedRunEnds, IsEcho, PlayEnds, PlayState, PlaysOn, Sees, arrived}
+use Rattle.cpm_run.specs.Seat.{Listens, Seat, Takes}
 use Rattle.cpm_run.specs.Play.PlaysOn.{goes, came}
 use Rattle.cpm_run.specs.declared.arriving.Arrival.{Arrival}
 use Rattle.cpm_run.specs.declared.arriving.PlayEnd.{PlayEnd}
 use Rattle.cpm_run.specs.declared.arriving.PlayEnd.TheVariants as play
 use Rattle.cpm_run.specs.declared.playing.state.Playing.{Playing}
-use Rattle.cpm_run.specs.Private.Playing.{Ends, IsStill, Went, state_of}
+use Rattle.cpm_run.specs.Private.Playing.{Continues, Ends, IsBetween, IsOver, IsStill, SoFar, Waits, WaitsOn, Went, state_of, taken}
 use Rattle.cpm_run.proofs.Going.{Pauses, at, go_on, step_is_turn, system, turn_as, unwatched}
 
 -- bytes that were shown ahead, and then the rest of what was put
@@ -31,9 +36,46 @@ pub none_ahead : (before after : Option (List ℕ)) (shown ahead : List ℕ) →
 none_ahead before after shown ahead is empty =
     subst (Appends before after) (sym (append-nil shown) ∙ ap (λ l. shown ++ l) (sym empty)) is
 
+-- a front of a buffer of 256 bytes
+pub take_min : (n : ℕ) (xs : List ℕ) → length xs ≡ 256 → take (min n 256) xs ≡ take n xs
+take_min n xs is = elim (cases_lt n 256) [
+  | inl below ↦ ap (λ (k : ℕ). take k xs) (let e : min n 256 ≡ n = omega (arith, below) in e)
+  | inr above ↦ take_all (min n 256) xs (omega (arith, is, above)) ∙ sym (take_all n xs (omega (arith, is, above)))
+]
+
+-- bytes of which each is one that arrived
+arrived_bytes : (turns : ℕ) (bytes : List ℕ) → map (λ (a : Arrival). a.byte) (arrived turns bytes) ≡ bytes
+arrived_bytes turns [] = refl
+arrived_bytes turns (byte ∷ bytes) = ap (λ l. byte ∷ l) (arrived_bytes turns bytes)
+
+-- keys came after those that had come
+pub arrives_more : (before mid after : Seat) (turns : ℕ) (bytes : List ℕ) (arrivals : List Arrival) → Arrives before mid arrivals → Takes bytes mid after → Arrives before after (arrivals ++ arrived turns bytes)
+arrives_more before mid after turns bytes arrivals had takes = record {
+  came = subst (Consumes before.coming after.coming) (ap (λ l. map (λ (a : Arrival). a.byte) arrivals ++ l) (sym (arrived_bytes turns bytes)) ∙ sym (map-append (λ (a : Arrival). a.byte) arrivals (arrived turns bytes)))
+      (Consumes-trans before.coming mid.coming after.coming _ bytes had.came takes.coming);
+  left = takes.left ∙ had.left;
+}
+
+-- no key came
+pub arrives_kept : (before mid after : Seat) (arrivals : List Arrival) → Arrives before mid arrivals → after.coming ≡ mid.coming → after.left ≡ mid.left → Arrives before after arrivals
+arrives_kept before mid after arrivals had coming left = record {
+  came = subst (λ (k : Option (List ℕ)). Consumes before.coming k (map (λ (a : Arrival). a.byte) arrivals)) (sym coming) had.came;
+  left = left ∙ had.left;
+}
+
+pub arrives_as : (before after : Seat) (arrivals same : List Arrival) → same ≡ arrivals → Arrives before after arrivals → Arrives before after same
+arrives_as before after arrivals same e had = subst (Arrives before after) (sym e) had
+
 -- two calls that make no step
 pub still : {S : Type 0} (old mid new : Playing S) → IsStill old mid → IsStill mid new → IsStill old new
 still old mid new first then = record { cpu = then.cpu ∙ first.cpu; turns = then.turns ∙ first.turns }
+
+-- the same step is still to be made
+pub between_kept : {S : Type 0} (limit : ℕ) (p q : Playing S) → q.cpu ≡ p.cpu → q.turns ≡ p.turns → IsBetween limit p → IsBetween limit q
+between_kept limit p q cpu turns next = record {
+  going = ap (λ (r : Cpu). is_finished r.pc) cpu ∙ next.going;
+  below = subst (λ (n : ℕ). n < limit) (sym turns) next.below;
+}
 
 module _ {S : Type 0} (sectors : S → Image) (faults : S → ℕ) where
   -- steps of the machine are steps of the run
@@ -81,12 +123,69 @@ module _ {S : Type 0} (sectors : S → Image) (faults : S → ℕ) where
   none_came start old system arrivals same known before = rw (same, known) before
 
   -- a session that did not end with the run
-  pub unclosed : (limit : ℕ) (end : PlayEnd) (start : PlayState S) (before after rest : Option (List ℕ)) (p : Playing S) → ((why : Why) → end ≢ play.Run why) → Ends sectors faults limit end start before p after
-      → (shown : List ℕ) × PlayEnds sectors faults limit start end (state_of p shown) × IsShown end before after shown rest
-  unclosed limit (play.Run why) start before after rest p other ends = absurd (other why refl)
-  unclosed limit play.Left start before after rest p other ends = (ends.0, ends.1, (p.ahead.items, ends.2))
-  unclosed limit play.NoMemory start before after rest p other ends = (ends.0, ends.1, (p.ahead.items, ends.2))
-  unclosed limit play.Failed start before after rest p other ends = (ends.0, inl ends.1, tt)
+  pub unclosed : (limit : ℕ) (end : PlayEnd) (start : PlayState S) (before after : Seat) (p : Playing S) → ((why : Why) → end ≢ play.Run why) → Ends sectors faults limit end start before p after
+      → (shown : List ℕ) × PlayEnds sectors faults limit start end (state_of p shown) × Sees end before after (state_of p shown)
+  unclosed limit (play.Run why) start before after p other ends = absurd (other why refl)
+  unclosed limit play.Left start before after p other ends = (ends.shown, (ends.plays, ends.next.going, ends.next.below), (ends.all, ends.left, (p.ahead.items, ends.echo, ends.seen)))
+  unclosed limit play.NoMemory start before after p other ends = (ends.shown, (ends.plays, ends.next.going, ends.next.below), (ends.all, ends.left, (p.ahead.items, ends.seen)))
+  unclosed limit play.Failed start before after p other ends = (ends.shown, inl ends.plays, ends.left)
+
+  -- nothing came, and the session waits on
+  pub waits_kept : (limit : ℕ) (start : PlayState S) (before mid after : Seat) (p q : Playing S) → Waits sectors faults limit start before p mid → q.cpu ≡ p.cpu → q.turns ≡ p.turns
+      → q.ahead.items ≡ p.ahead.items → q.bdos.terminal.console.output ≡ p.bdos.terminal.console.output → ((shown : List ℕ) → PlaysOn sectors faults start (state_of p shown) → PlaysOn sectors faults start (state_of q shown))
+      → after.shown ≡ mid.shown → Arrives before after q.arrivals.items → Waits sectors faults limit start before q after
+  waits_kept limit start before mid after p q waits cpu turns ahead output plays shown arrives = record {
+    so_far = record {
+      shown = waits.so_far.shown;
+      plays = plays waits.so_far.shown waits.so_far.plays;
+      seen = subst (λ (a : List ℕ). Appends before.shown after.shown (waits.so_far.shown ++ a)) (sym ahead) (subst (λ (k : Option (List ℕ)). Appends before.shown k (waits.so_far.shown ++ p.ahead.items)) (sym shown) waits.so_far.seen);
+      arrives = arrives;
+    };
+    next = between_kept limit p q cpu turns waits.next;
+    all = output ∙ waits.all;
+  }
+
+  -- no step was made yet
+  pub at_first : (start : PlayState S) (before : Seat) (p : Playing S) → PlaysOn sectors faults start (state_of p []) → p.ahead.items ≡ [] → p.arrivals.items ≡ [] → SoFar sectors faults start before p before
+  at_first start before p plays ahead none_came = record {
+    shown = [];
+    plays = plays;
+    seen = none_ahead before.shown before.shown [] p.ahead.items (Appends-nil before.shown) ahead;
+    arrives = arrives_as before before [] p.arrivals.items none_came (record { came = Consumes-nil before.coming; left = refl });
+  }
+
+  -- steps were made, and nobody was asked
+  pub moved : (start : PlayState S) (before after : Seat) (p q : Playing S) (first : SoFar sectors faults start before p after) → PlaysOn sectors faults start (state_of q first.shown)
+      → q.ahead.items ≡ p.ahead.items → q.arrivals.items ≡ p.arrivals.items → SoFar sectors faults start before q after
+  moved start before after p q first plays ahead arrivals = record {
+    shown = first.shown;
+    plays = plays;
+    seen = subst (λ (a : List ℕ). Appends before.shown after.shown (first.shown ++ a)) (sym ahead) first.seen;
+    arrives = arrives_as before after _ _ arrivals first.arrives;
+  }
+
+  -- the run ended with these steps
+  pub over : (limit : ℕ) (end : Why) (start : PlayState S) (before after : Seat) (p q : Playing S) (first : SoFar sectors faults start before p after) → PlayedRunEnds sectors faults limit start end (state_of q first.shown)
+      → q.ahead.items ≡ p.ahead.items → q.arrivals.items ≡ p.arrivals.items → IsOver sectors faults limit start end before q after
+  over limit end start before after p q first ends ahead arrivals = record {
+    shown = first.shown;
+    ends = ends;
+    seen = subst (λ (a : List ℕ). Appends before.shown after.shown (first.shown ++ a)) (sym ahead) first.seen;
+    arrives = arrives_as before after _ _ arrivals first.arrives;
+  }
+
+  -- all is shown before a step
+  pub begun : (limit : ℕ) (start : PlayState S) (before after : Seat) (old p : Playing S) → SoFar sectors faults start before p after → IsStill old p → p.bdos.terminal.console.output ≡ Some [] → IsBetween limit old
+      → Waits sectors faults limit start before p after
+  begun limit start before after old p so_far still all next = record { so_far = so_far; next = between_kept limit old p still.cpu still.turns next; all = all }
+
+  pub after_listening : {A : Type 0} (limit : ℕ) (result : Result A PlayEnd) (start : PlayState S) (before after : Seat) (p : Playing S) → WaitsOn sectors faults limit result start before p after → Continues sectors faults limit result start before p after
+  after_listening limit (Ok done) start before after p waits = waits.so_far
+  after_listening limit (Err end) start before after p ends = ends
+
+  -- a session in which the keyboard or the screen failed
+  pub broken : (limit : ℕ) (start : PlayState S) (before after : Seat) (p : Playing S) → Waits sectors faults limit start before p after → Ends sectors faults limit play.Failed start before p after
+  broken limit start before after p waits = record { shown = waits.so_far.shown; plays = waits.so_far.plays; left = waits.so_far.arrives.left }
 
   -- no step ended the run
   pub gone : (end : Option Why) (start new : PlayState S) → ((why : Why) → end ≢ Some why) → Went sectors faults end start new → PlaysOn sectors faults start new

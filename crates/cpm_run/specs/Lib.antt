@@ -2,6 +2,7 @@ pub mod Words
 pub mod Start
 pub mod Turns
 pub mod Run
+pub mod Seat
 pub mod Undisturbed
 pub mod Records
 pub mod Walks

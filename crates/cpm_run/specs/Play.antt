@@ -1,9 +1,11 @@
 -- A session at a keyboard: a run to which bytes come between its steps.
-use Rattle.std.specs.Prelude.{◌≡◌, ◌≤◌, ◌+◌, ◌++◌, ◌⊎◌, ℕ, true, false, List, [], Option, Some, Ok, Err, ⊤, map}
-use Rattle.std.specs.Io.KnownBytes.{Appends}
+use Rattle.std.specs.Prelude.{◌≡◌, ◌<◌, ◌≤◌, ◌+◌, ◌++◌, ◌⊎◌, ℕ, true, false, List, [], Option, Some, Ok, Err, length, map, slice_get, take}
+use Rattle.std.specs.Io.KnownBytes.{Appends, Consumes}
 use Rattle.z80_cpu.specs.State.{machine}
 use Rattle.z80_cpu.specs.declared.registers.Cpu.{Cpu}
-use Rattle.cpm_console.specs.Dialog.{Dialog, output_cleared, dialog_of, typed_in}
+use Rattle.cpm_console.specs.Dialog.{Dialog, output_cleared, dialog_of, put_by, typed_in}
+use Rattle.cpm_console.specs.Line.{typed_line}
+use Rattle.cpm_console.specs.Screen.{screen}
 use Rattle.cpm_disk.specs.Calls.{Mounted}
 use Rattle.cpm_disk.specs.Image.{Image}
 use Rattle.cpm_bdos.specs.System.{new_system, with_console}
@@ -14,6 +16,7 @@ use Rattle.cpm_run.specs.declared.arriving.Arrival.{Arrival}
 use Rattle.cpm_run.specs.declared.arriving.PlayEnd.{PlayEnd}
 use Rattle.cpm_run.specs.declared.arriving.PlayEnd.TheVariants as play
 use Rattle.cpm_run.specs.Run.{unstarted}
+use Rattle.cpm_run.specs.Seat.{Seat}
 use Rattle.cpm_run.specs.Start.{IsStart}
 use Rattle.cpm_run.specs.Turns.{Goes, IsTurn, RunState, is_finished}
 
@@ -57,20 +60,35 @@ PlayedRunEnds sectors faults limit start end new =
     ⊎ ((PlaysOn sectors faults start new × (new.turns ≡ limit) × (is_finished new.run.machine.cpu.pc ≡ false) × (end ≡ why.TurnLimit))
     ⊎ EndsBy sectors faults start end new)
 
+-- The session ended between two steps: the next one was still to be made.
+abbrev pub EndsBetween : {S : Type 0} → (S → Image) → (S → ℕ) → ℕ → PlayState S → PlayState S → Type 0
+EndsBetween sectors faults limit start new = PlaysOn sectors faults start new × (is_finished new.run.machine.cpu.pc ≡ false) × (new.turns < limit)
+
 -- How a session ends: with the run; or before, since the person left, or memory ran out for what came; or since the keyboard or the screen
 -- failed, which may also be after the run.
 abbrev pub PlayEnds : {S : Type 0} → (S → Image) → (S → ℕ) → ℕ → PlayState S → PlayEnd → PlayState S → Type 0
 PlayEnds sectors faults limit start (play.Run end) new = PlayedRunEnds sectors faults limit start end new
 PlayEnds sectors faults limit start play.Failed new = PlaysOn sectors faults start new ⊎ ((end : Why) × PlayedRunEnds sectors faults limit start end new)
-PlayEnds sectors faults limit start _ new = PlaysOn sectors faults start new
+PlayEnds sectors faults limit start _ new = EndsBetween sectors faults limit start new
 
--- What was shown in a session, given what was known to be shown before and after it, what the session has shown, and what the program has put
--- that is not shown yet. If the run has ended, all is shown. If the session ended before that, the echo of a line that was not finished may be
--- shown too. If the screen failed, this says nothing.
-abbrev pub IsShown : PlayEnd → Option (List ℕ) → Option (List ℕ) → List ℕ → Option (List ℕ) → Type 0
-IsShown (play.Run end) before after shown rest = (bytes : List ℕ) × (rest ≡ Some bytes) × Appends before after (shown ++ bytes)
-IsShown play.Failed before after shown rest = ⊤
-IsShown _ before after shown rest = (echo : List ℕ) × Appends before after (shown ++ echo)
+-- The bytes that arrived are the keys that came, in their order, and the person has not left meanwhile.
+pub record Arrives (before after : Seat) (arrivals : List Arrival) : Type 0 where
+  pub came : Consumes before.coming after.coming (map (λ arrival. arrival.byte) arrivals)
+  pub left : after.left ≡ before.left
+
+-- The echo of a line that is being typed, which is shown before function 10 puts it: what the function would put for the bytes that are
+-- there. There is none if no line is being typed.
+abbrev pub IsEcho : {S : Type 0} → RunState S Dialog → List ℕ → Type 0
+IsEcho r echo = (echo ≡ []) ⊎ ((room : ℕ) × (echo ≡ put_by (typed_line room (screen (λ d. d) r.system.terminal)).events))
+
+-- What the keyboard and the screen tell of a session. With the run, all is shown that the program put. If the person left, all is shown, and the
+-- echo of the line that was not finished. If memory ran out, some of that echo may be shown. If the keyboard or the screen failed, this does not
+-- say what was shown.
+abbrev pub Sees : {S : Type 0} → PlayEnd → Seat → Seat → PlayState S → Type 0
+Sees (play.Run end) before after new = (bytes : List ℕ) × (new.run.system.terminal.console.output ≡ Some bytes) × Appends before.shown after.shown (new.shown ++ bytes) × Arrives before after new.arrivals
+Sees play.Failed before after new = after.left ≡ before.left
+Sees play.Left before after new = (new.run.system.terminal.console.output ≡ Some []) × (after.left ≡ true) × ((echo : List ℕ) × IsEcho new.run echo × Appends before.shown after.shown (new.shown ++ echo))
+Sees play.NoMemory before after new = (new.run.system.terminal.console.output ≡ Some []) × (after.left ≡ before.left) × ((echo : List ℕ) × Appends before.shown after.shown (new.shown ++ echo))
 
 -- the session at the start of a program
 abbrev pub first_state : {S : Type 0} → Cpu → List ℕ → Mounted S → PlayState S
@@ -78,9 +96,20 @@ first_state cpu memory disk = record { run = record { machine = machine cpu memo
 
 -- A session with a program and its words, on a disk, of at most `limit` steps: how it ended, after how many steps and with which PC, the disk
 -- then, and the bytes that came. If the program cannot be started, there is no step.
-abbrev pub IsPlayed : {S : Type 0} → (S → Image) → (S → ℕ) → List ℕ → List (List ℕ) → Mounted S → ℕ → Option (List ℕ) → PlayEnd → ℕ → ℕ → Mounted S → List Arrival → Option (List ℕ) → Type 0
+abbrev pub IsPlayed : {S : Type 0} → (S → Image) → (S → ℕ) → List ℕ → List (List ℕ) → Mounted S → ℕ → Seat → PlayEnd → ℕ → ℕ → Mounted S → List Arrival → Seat → Type 0
 IsPlayed {S} sectors faults file words disk limit before end turns pc left arrivals after =
     ((cpu : Cpu) × (memory : List ℕ) × (new : PlayState S) × IsStart file words (Ok (cpu, memory)) × PlayEnds sectors faults limit (first_state cpu memory disk) end new
-    × (turns ≡ new.turns) × (turns ≤ limit) × (pc ≡ new.run.machine.cpu.pc) × (left ≡ new.run.system.disk) × (arrivals ≡ new.arrivals)
-    × IsShown end before after new.shown new.run.system.terminal.console.output)
+    × (turns ≡ new.turns) × (turns ≤ limit) × (pc ≡ new.run.machine.cpu.pc) × (left ≡ new.run.system.disk) × (arrivals ≡ new.arrivals) × Sees end before after new)
     ⊎ ((no : StartFault) × IsStart file words (Err no) × (end ≡ play.Run (unstarted no)) × (turns ≡ 0) × (pc ≡ 0x0100) × (left ≡ disk) × (arrivals ≡ []) × (after ≡ before))
+
+-- ---- the same session again
+
+-- These bytes of a record have come, and each that has not was to come after this number of steps or later.
+abbrev pub Follows : List Arrival → ℕ → List Arrival → Type 0
+Follows recorded turns arrivals = (n : ℕ) × (arrivals ≡ take n recorded) × ((k : ℕ) (later : Arrival) → n ≤ k → slice_get recorded k ≡ Some later → turns ≤ later.turn)
+
+-- How a session ends that is played again from a record whose last step is `last`: with the run; or after the last step, which is what `Left` says
+-- here; or as a session at a keyboard.
+abbrev pub ReplayEnds : {S : Type 0} → (S → Image) → (S → ℕ) → ℕ → ℕ → PlayState S → PlayEnd → PlayState S → Type 0
+ReplayEnds sectors faults limit last start play.Left new = PlaysOn sectors faults start new × (is_finished new.run.machine.cpu.pc ≡ false) × (new.turns ≡ last)
+ReplayEnds sectors faults limit last start end new = PlayEnds sectors faults limit start end new

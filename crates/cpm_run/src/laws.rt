@@ -2,7 +2,7 @@
 
 ghost use Rattle.std.specs.Prelude.{◌≡◌, ℕ, List};
 ghost use Rattle.cpm_disk.specs.Calls.{Mounted};
-ghost use Rattle.cpm_bdos.specs.Alike.{AlikeDialogs, AlikeDisks};
+ghost use Rattle.cpm_bdos.specs.Alike.{AlikeDialogs, AlikeDisks, seen_nothing};
 ghost use Rattle.cpm_run.specs.declared.ending.Why.{Why};
 ghost use Rattle.cpm_run.specs.Run.{IsRun};
 ghost use Rattle.cpm_run.specs.Undisturbed.{IsUndisturbed};
@@ -19,7 +19,7 @@ pub fn one_run<S: Sectors, C: Console>()
         AlikeDisks S.sectors disk other → C.dialog second ≡ C.dialog console → IsUndisturbed end → IsUndisturbed cause →
         IsRun S.sectors S.faults C.dialog file words disk console limit end turns pc left kept →
         IsRun S.sectors S.faults C.dialog file words other second limit cause steps address there held →
-        (cause ≡ end) × (steps ≡ turns) × (address ≡ pc) × AlikeDisks S.sectors left there × AlikeDialogs (C.dialog console).output (C.dialog kept) (C.dialog held) }
+        (cause ≡ end) × (steps ≡ turns) × (address ≡ pc) × AlikeDisks S.sectors left there × AlikeDialogs (seen_nothing (C.dialog console).output) (C.dialog kept) (C.dialog held) }
 {
     z80_machine::laws::one_turn();
 }

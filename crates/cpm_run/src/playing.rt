@@ -1,7 +1,8 @@
 //! Runs a program for somebody at a keyboard.
 
-ghost use Rattle.std.specs.Prelude.{◌≡◌, ◌≤◌, ◌<◌, List, OnOk, Option, ℕ, map};
-ghost use Rattle.cpm_run.specs.Play.{IsPlayed, PlayState, IsShown, PlayEnds};
+ghost use Rattle.std.specs.Prelude.{◌≡◌, ◌≤◌, ◌<◌, List, OnOk, ℕ, map};
+ghost use Rattle.cpm_run.specs.Play.{IsPlayed, PlayState, PlayEnds, Sees};
+ghost use Rattle.cpm_run.specs.Seat.{Seat};
 ghost use Rattle.cpm_run.specs.Private.Playing.{Continues, Ends, OnlyShows, SoFar, state_of};
 
 mod state;
@@ -18,7 +19,7 @@ use state::Playing;
 use std::alloc::Global;
 
 /// At most this number of steps are made before the keyboard is looked at, so that a person can leave a program that makes no calls.
-const SLICE: u64 = 20_000_000;
+const SLICE: u64 = 2_000_000;
 
 /// At most this number of bytes are put before they are shown.
 const MOST_HELD: usize = 4_096;
@@ -40,7 +41,7 @@ impl<S: Sectors> Playing<S> {
     /// Shows what was put, if it is much, or if a part of it is shown already.
     fn show_much<K: Station>(&mut self, station: &mut K) -> Result<(), PlayEnd>
         ensures turns { self.new.turns ≡ self.old.turns }
-        ensures so_far { (limit : ℕ) (start : PlayState S) (before : Option (List ℕ)) → SoFar S.sectors S.faults start before self.old (K.shown station.old) → Continues S.sectors S.faults limit result start before self.new (K.shown station.new) }
+        ensures so_far { (limit : ℕ) (start : PlayState S) (before : Seat) → SoFar S.sectors S.faults start before self.old (K.seat station.old) → Continues S.sectors S.faults limit result start before self.new (K.seat station.new) }
     {
         if !self.ahead.is_empty() || self.bdos.console().output().len() >= MOST_HELD {
             return self.show_all(station);
@@ -58,7 +59,7 @@ impl<S: Sectors> Playing<S> {
         requires bound { self.old.turns ≤ limit }
         ensures bound { self.new.turns ≤ limit }
         ensures further { OnOk result (self.old.turns < self.new.turns) }
-        ensures so_far { (start : PlayState S) (before : Option (List ℕ)) → SoFar S.sectors S.faults start before self.old (K.shown station.old) → Continues S.sectors S.faults limit result start before self.new (K.shown station.new) }
+        ensures so_far { (start : PlayState S) (before : Seat) → SoFar S.sectors S.faults start before self.old (K.seat station.old) → Continues S.sectors S.faults limit result start before self.new (K.seat station.new) }
     {
         if let Some(why) = self.compute((limit - self.turns).min(SLICE)) {
             return Err(PlayEnd::Run(why));
@@ -69,7 +70,9 @@ impl<S: Sectors> Playing<S> {
         if self.turns == limit {
             return Err(PlayEnd::Run(Why::TurnLimit));
         }
-        self.attend(alloc, station)?;
+        if let Err(end) = self.attend(alloc, station) {
+            return Err(end);
+        }
         if let Some(why) = self.take_turn() {
             return Err(PlayEnd::Run(why));
         }
@@ -80,7 +83,7 @@ impl<S: Sectors> Playing<S> {
     fn play<K: Station>(&mut self, alloc: Global, station: &mut K, limit: u64) -> PlayEnd
         requires bound { self.old.turns ≤ limit }
         ensures bound { self.new.turns ≤ limit }
-        ensures so_far { (start : PlayState S) (before : Option (List ℕ)) → SoFar S.sectors S.faults start before self.old (K.shown station.old) → Ends S.sectors S.faults limit result start before self.new (K.shown station.new) }
+        ensures so_far { (start : PlayState S) (before : Seat) → SoFar S.sectors S.faults start before self.old (K.seat station.old) → Ends S.sectors S.faults limit result start before self.new (K.seat station.new) }
     {
         loop {
             if let Err(end) = self.go_round(alloc, station, limit) {
@@ -92,8 +95,8 @@ impl<S: Sectors> Playing<S> {
     /// Shows what was put last, if the run has ended. Answers how the session ended.
     fn close<K: Station>(&mut self, station: &mut K, end: PlayEnd) -> PlayEnd
         ensures others { OnlyShows self.old self.new }
-        ensures ended { (limit : ℕ) (start : PlayState S) (before : Option (List ℕ)) → Ends S.sectors S.faults limit end start before self.old (K.shown station.old)
-            → (shown : List ℕ) × PlayEnds S.sectors S.faults limit start result (state_of self.old shown) × IsShown result before (K.shown station.new) shown self.old.bdos.terminal.console.output }
+        ensures ended { (limit : ℕ) (start : PlayState S) (before : Seat) → Ends S.sectors S.faults limit end start before self.old (K.seat station.old)
+            → (shown : List ℕ) × PlayEnds S.sectors S.faults limit start result (state_of self.old shown) × Sees result before (K.seat station.new) (state_of self.old shown) }
     {
         match end {
             PlayEnd::Run(why) => match self.show(station) {
@@ -118,7 +121,7 @@ pub fn play<S: Sectors, K: Station>(
     station: &mut K,
     limit: u64,
 ) -> Played<S>
-    ensures { IsPlayed S.sectors S.faults «com».now (map (λ w. w.now) words.now) disk limit (K.shown station.old) result.end result.turns result.pc result.disk result.arrivals.items (K.shown station.new) }
+    ensures { IsPlayed S.sectors S.faults «com».now (map (λ w. w.now) words.now) disk limit (K.seat station.old) result.end result.turns result.pc result.disk result.arrivals.items (K.seat station.new) }
 {
     let (cpu, memory) = match start(alloc, com, words) {
         Ok(state) => state,

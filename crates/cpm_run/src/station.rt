@@ -1,7 +1,6 @@
 //! Where somebody sits while a program runs: a keyboard and a screen.
 
-ghost use Rattle.std.specs.Prelude.{◌≡◌, List, OnOk, Option, ℕ};
-ghost use Rattle.std.specs.Io.KnownBytes.{Appends};
+ghost use Rattle.cpm_run.specs.Seat.{Listens, Seat, TriesToShow};
 
 /// Whether a keyboard is asked for what has come, or for what will come.
 #[derive(Clone, Copy, Debug, PartialEq, Eq)]
@@ -29,8 +28,8 @@ pub struct StationFault;
 
 /// A keyboard and a screen.
 pub trait Station {
-    /// The bytes that were shown so far, if they are known.
-    ghost shown: { Self → Option (List ℕ) };
+    /// What was shown and what will come, where that is known, and whether the person has left.
+    ghost seat: { Self → Seat };
 
     /// Reads what comes into a buffer. The program has made `turns` steps.
     ///
@@ -43,7 +42,7 @@ pub trait Station {
         patience: Patience,
         buffer: &mut [u8],
     ) -> Result<Came, StationFault>
-        ensures { shown self.new ≡ shown self.old };
+        ensures { Listens (seat self.old) (seat self.new) result buffer.new };
 
     /// Shows bytes.
     ///
@@ -51,5 +50,5 @@ pub trait Station {
     ///
     /// [`StationFault`] if the screen does not take them all.
     fn show(&mut self, bytes: &[u8]) -> Result<(), StationFault>
-        ensures { OnOk result (Appends (shown self.old) (shown self.new) bytes.now) };
+        ensures { TriesToShow bytes.now (seat self.old) (seat self.new) result };
 }

@@ -1,5 +1,5 @@
 -- A session as the code keeps it.
-use Rattle.std.specs.Prelude.{◌≡◌, ◌++◌, ℕ, List, Option, None, Some, Result, Ok, Err}
+use Rattle.std.specs.Prelude.{◌≡◌, ◌<◌, ◌++◌, ℕ, true, false, List, [], Option, None, Some, Result, Ok, Err}
 use Rattle.std.specs.Io.KnownBytes.{Appends}
 use Rattle.z80_cpu.specs.State.{machine}
 use Rattle.cpm_disk.specs.Image.{Image}
@@ -7,7 +7,10 @@ use Rattle.cpm_run.specs.declared.ending.Why.{Why}
 use Rattle.cpm_run.specs.declared.arriving.PlayEnd.{PlayEnd}
 use Rattle.cpm_run.specs.declared.arriving.PlayEnd.TheVariants as play
 use Rattle.cpm_run.specs.declared.playing.state.Playing.{Playing}
-use Rattle.cpm_run.specs.Play.{EndsBy, PlayState, PlaysOn, PlayedRunEnds}
+use Rattle.cpm_run.specs.Play.{Arrives, EndsBy, IsEcho, PlayState, PlaysOn, PlayedRunEnds, arrived}
+use Rattle.cpm_run.specs.declared.arriving.Arrival.{Arrival}
+use Rattle.cpm_run.specs.Seat.{Seat}
+use Rattle.cpm_run.specs.Turns.{is_finished}
 
 -- the session, given what was shown
 abbrev pub state_of : {S : Type 0} → Playing S → List ℕ → PlayState S
@@ -18,20 +21,77 @@ abbrev pub Went : {S : Type 0} → (S → Image) → (S → ℕ) → Option Why 
 Went sectors faults None start new = PlaysOn sectors faults start new
 Went sectors faults (Some end) start new = EndsBy sectors faults start end new
 
--- The session so far: what the screen has is what was shown, and the bytes that were shown ahead.
-abbrev pub SoFar : {S : Type 0} → (S → Image) → (S → ℕ) → PlayState S → Option (List ℕ) → Playing S → Option (List ℕ) → Type 0
-SoFar sectors faults start before p after = (shown : List ℕ) × PlaysOn sectors faults start (state_of p shown) × Appends before after (shown ++ p.ahead.items)
+-- The session so far: the screen has what was shown, and the bytes that were shown ahead.
+pub record SoFar {S : Type 0} (sectors : S → Image) (faults : S → ℕ) (start : PlayState S) (before : Seat) (p : Playing S) (after : Seat) : Type 0 where
+  pub shown : List ℕ
+  pub plays : PlaysOn sectors faults start (state_of p shown)
+  pub seen : Appends before.shown after.shown (shown ++ p.ahead.items)
+  pub arrives : Arrives before after p.arrivals.items
+
+-- the session after a last step, or with the limit reached
+pub record IsOver {S : Type 0} (sectors : S → Image) (faults : S → ℕ) (limit : ℕ) (start : PlayState S) (end : Why) (before : Seat) (p : Playing S) (after : Seat) : Type 0 where
+  pub shown : List ℕ
+  pub ends : PlayedRunEnds sectors faults limit start end (state_of p shown)
+  pub seen : Appends before.shown after.shown (shown ++ p.ahead.items)
+  pub arrives : Arrives before after p.arrivals.items
+
+-- The next step is still to be made.
+pub record IsBetween {S : Type 0} (limit : ℕ) (p : Playing S) : Type 0 where
+  pub going : is_finished p.cpu.pc ≡ false
+  pub below : p.turns < limit
+
+-- The next step is still to be made, and all is shown that was put.
+pub record Waits {S : Type 0} (sectors : S → Image) (faults : S → ℕ) (limit : ℕ) (start : PlayState S) (before : Seat) (p : Playing S) (after : Seat) : Type 0 where
+  pub so_far : SoFar sectors faults start before p after
+  pub next : IsBetween limit p
+  pub all : p.bdos.terminal.console.output ≡ Some []
+
+-- the session that the person left
+pub record IsLeft {S : Type 0} (sectors : S → Image) (faults : S → ℕ) (limit : ℕ) (start : PlayState S) (before : Seat) (p : Playing S) (after : Seat) : Type 0 where
+  pub shown : List ℕ
+  pub plays : PlaysOn sectors faults start (state_of p shown)
+  pub next : IsBetween limit p
+  pub all : p.bdos.terminal.console.output ≡ Some []
+  pub seen : Appends before.shown after.shown (shown ++ p.ahead.items)
+  pub echo : IsEcho (state_of p shown).run p.ahead.items
+  pub left : after.left ≡ true
+
+-- the session in which memory ran out
+pub record IsShort {S : Type 0} (sectors : S → Image) (faults : S → ℕ) (limit : ℕ) (start : PlayState S) (before : Seat) (p : Playing S) (after : Seat) : Type 0 where
+  pub shown : List ℕ
+  pub plays : PlaysOn sectors faults start (state_of p shown)
+  pub next : IsBetween limit p
+  pub all : p.bdos.terminal.console.output ≡ Some []
+  pub seen : Appends before.shown after.shown (shown ++ p.ahead.items)
+  pub left : after.left ≡ before.left
+
+-- the session in which the keyboard or the screen failed
+pub record IsBroken {S : Type 0} (sectors : S → Image) (faults : S → ℕ) (start : PlayState S) (before : Seat) (p : Playing S) (after : Seat) : Type 0 where
+  pub shown : List ℕ
+  pub plays : PlaysOn sectors faults start (state_of p shown)
+  pub left : after.left ≡ before.left
 
 -- the session after a call that ended it
-abbrev pub Ends : {S : Type 0} → (S → Image) → (S → ℕ) → ℕ → PlayEnd → PlayState S → Option (List ℕ) → Playing S → Option (List ℕ) → Type 0
-Ends sectors faults limit (play.Run end) start before p after = (shown : List ℕ) × PlayedRunEnds sectors faults limit start end (state_of p shown) × Appends before after (shown ++ p.ahead.items)
-Ends sectors faults limit play.Failed start before p after = (shown : List ℕ) × PlaysOn sectors faults start (state_of p shown)
-Ends sectors faults limit _ start before p after = SoFar sectors faults start before p after
+abbrev pub Ends : {S : Type 0} → (S → Image) → (S → ℕ) → ℕ → PlayEnd → PlayState S → Seat → Playing S → Seat → Type 0
+Ends sectors faults limit (play.Run end) start before p after = IsOver sectors faults limit start end before p after
+Ends sectors faults limit play.Failed start before p after = IsBroken sectors faults start before p after
+Ends sectors faults limit play.Left start before p after = IsLeft sectors faults limit start before p after
+Ends sectors faults limit play.NoMemory start before p after = IsShort sectors faults limit start before p after
 
 -- the session after a call that may end it
-abbrev pub Continues : {A : Type 0} {S : Type 0} → (S → Image) → (S → ℕ) → ℕ → Result A PlayEnd → PlayState S → Option (List ℕ) → Playing S → Option (List ℕ) → Type 0
+abbrev pub Continues : {A : Type 0} {S : Type 0} → (S → Image) → (S → ℕ) → ℕ → Result A PlayEnd → PlayState S → Seat → Playing S → Seat → Type 0
 Continues sectors faults limit (Ok done) start before p after = SoFar sectors faults start before p after
 Continues sectors faults limit (Err end) start before p after = Ends sectors faults limit end start before p after
+
+-- the same, and the next step is still to be made
+abbrev pub WaitsOn : {A : Type 0} {S : Type 0} → (S → Image) → (S → ℕ) → ℕ → Result A PlayEnd → PlayState S → Seat → Playing S → Seat → Type 0
+WaitsOn sectors faults limit (Ok done) start before p after = Waits sectors faults limit start before p after
+WaitsOn sectors faults limit (Err end) start before p after = Ends sectors faults limit end start before p after
+
+-- the bytes that arrived, and these, unless memory ran out for them
+abbrev pub taken : {E : Type 0} → ℕ → List ℕ → Result Unit E → List Arrival → List Arrival
+taken turns bytes (Ok done) arrivals = arrivals ++ arrived turns bytes
+taken turns bytes (Err e) arrivals = arrivals
 
 -- what a call leaves as it was that makes no step
 pub record IsStill {S : Type 0} (old new : Playing S) : Type 0 where

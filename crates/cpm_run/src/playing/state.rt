@@ -2,11 +2,10 @@
 
 ghost use Rattle.std.specs.Prelude.{◌≡◌, ◌≢◌, ◌≤◌, ◌<◌, ◌+◌, ◌^◌, ◌-◌, ◌++◌, [], ℕ, false, IfOk, List, MatchOption, OnErr, OnOk, Option, Some};
 ghost use Rattle.std.specs.Io.KnownBytes.{Appends};
-ghost use Rattle.cpm_console.specs.Dialog.{output_cleared};
-ghost use Rattle.cpm_bdos.specs.System.{with_console};
-ghost use Rattle.cpm_run.specs.Play.{PlayState, PlaysOn, arrived, first_state};
+ghost use Rattle.cpm_run.specs.Play.{IsEcho, PlayState, PlaysOn, arrived, first_state};
+ghost use Rattle.cpm_run.specs.Seat.{Seat};
 ghost use Rattle.cpm_run.specs.Turns.{is_finished};
-ghost use Rattle.cpm_run.specs.Private.Playing.{Continues, IsStill, OnlyShows, SoFar, Went, state_of};
+ghost use Rattle.cpm_run.specs.Private.Playing.{IsStill, OnlyShows, Waits, WaitsOn, Went, state_of, taken};
 
 use crate::arriving::{Arrival, PlayEnd};
 use crate::ending::Why;
@@ -40,6 +39,8 @@ pub(crate) struct Playing<S: Sectors> {
     pub(crate) ahead: Vec<u8>,
     /// Whether no byte will come any more.
     pub(crate) ended: bool,
+    /// The number of steps when the keyboard was looked at last.
+    pub(crate) looked: u64,
 }
 
 /// The bytes that came after this number of steps.
@@ -78,6 +79,7 @@ impl<S: Sectors> Playing<S> {
             arrivals: Vec::new(alloc),
             ahead: Vec::new(alloc),
             ended: false,
+            looked: 0,
         }
     }
 
@@ -87,6 +89,7 @@ impl<S: Sectors> Playing<S> {
         ensures bound { self.new.turns ≤ self.old.turns + most }
         ensures least { self.old.turns ≤ self.new.turns }
         ensures ahead { self.new.ahead.items ≡ self.old.ahead.items }
+        ensures arrivals { self.new.arrivals.items ≡ self.old.arrivals.items }
         ensures goes { (start : PlayState S) (shown : List ℕ) → PlaysOn S.sectors S.faults start (state_of self.old shown) → Went S.sectors S.faults result start (state_of self.new shown) }
     {
         let (made, stop) = z80_machine::run(&mut self.cpu, &mut self.memory, SYSTEM, most);
@@ -110,6 +113,7 @@ impl<S: Sectors> Playing<S> {
         requires room { self.old.turns < 2 ^ 64 - 1 }
         ensures turns { self.new.turns ≡ self.old.turns + 1 }
         ensures ahead { self.new.ahead.items ≡ self.old.ahead.items }
+        ensures arrivals { self.new.arrivals.items ≡ self.old.arrivals.items }
         ensures goes { (start : PlayState S) (shown : List ℕ) → PlaysOn S.sectors S.faults start (state_of self.old shown) → Went S.sectors S.faults result start (state_of self.new shown) }
     {
         let end = turn(&mut self.cpu, &mut self.memory, &mut self.bdos);
@@ -118,9 +122,11 @@ impl<S: Sectors> Playing<S> {
     }
 
     /// Takes bytes that came. If memory runs out, none of them came.
-    fn take_in(&mut self, alloc: Global, bytes: &[u8]) -> Result<(), AllocError>
+    pub(crate) fn take_in(&mut self, alloc: Global, bytes: &[u8]) -> Result<(), AllocError>
         ensures still { IsStill self.old self.new }
         ensures ahead { self.new.ahead.items ≡ self.old.ahead.items }
+        ensures output { self.new.bdos.terminal.console.output ≡ self.old.bdos.terminal.console.output }
+        ensures arrivals { self.new.arrivals.items ≡ taken self.old.turns bytes.now result self.old.arrivals.items }
         ensures came { (start : PlayState S) (shown : List ℕ) → PlaysOn S.sectors S.faults start (state_of self.old shown) → PlaysOn S.sectors S.faults start (state_of self.new shown) }
     {
         let known = self.arrivals.len();
@@ -143,7 +149,9 @@ impl<S: Sectors> Playing<S> {
         patience: Patience,
     ) -> Result<(), PlayEnd>
         ensures still { IsStill self.old self.new }
-        ensures so_far { (limit : ℕ) (start : PlayState S) (before : Option (List ℕ)) → SoFar S.sectors S.faults start before self.old (K.shown station.old) → Continues S.sectors S.faults limit result start before self.new (K.shown station.new) }
+        ensures ahead { self.new.ahead.items ≡ self.old.ahead.items }
+        ensures waits { (limit : ℕ) (start : PlayState S) (before : Seat) → Waits S.sectors S.faults limit start before self.old (K.seat station.old) → IsEcho (state_of self.old []).run self.old.ahead.items
+            → WaitsOn S.sectors S.faults limit result start before self.new (K.seat station.new) }
     {
         let mut buffer = [0; 256];
         match station.listen(self.turns, patience, &mut buffer)? {
@@ -158,9 +166,11 @@ impl<S: Sectors> Playing<S> {
     pub(crate) fn show<K: Station>(&mut self, station: &mut K) -> Result<(), StationFault>
         ensures others { OnlyShows self.old self.new }
         ensures failed { OnErr result (self.new ≡ self.old) }
-        ensures all { OnOk result ((before : Option (List ℕ)) (shown : List ℕ) → Appends before (K.shown station.old) (shown ++ self.old.ahead.items)
-            → (bytes : List ℕ) × (self.old.bdos.terminal.console.output ≡ Some bytes) × Appends before (K.shown station.new) (shown ++ bytes)) }
-        ensures rest { OnOk result ((self.new.ahead.items ≡ []) × ((start : PlayState S) (shown bytes : List ℕ) → self.old.bdos.terminal.console.output ≡ Some bytes → PlaysOn S.sectors S.faults start (state_of self.old shown) → PlaysOn S.sectors S.faults start (state_of self.new (shown ++ bytes)))) }
+        ensures left { (K.seat station.new).left ≡ (K.seat station.old).left }
+        ensures coming { OnOk result ((K.seat station.new).coming ≡ (K.seat station.old).coming) }
+        ensures all { OnOk result ((before : Option (List ℕ)) (shown : List ℕ) → Appends before (K.seat station.old).shown (shown ++ self.old.ahead.items)
+            → (bytes : List ℕ) × (self.old.bdos.terminal.console.output ≡ Some bytes) × Appends before (K.seat station.new).shown (shown ++ bytes)) }
+        ensures rest { OnOk result ((self.new.ahead.items ≡ []) × (self.new.bdos.terminal.console.output ≡ Some []) × ((start : PlayState S) (shown bytes : List ℕ) → self.old.bdos.terminal.console.output ≡ Some bytes → PlaysOn S.sectors S.faults start (state_of self.old shown) → PlaysOn S.sectors S.faults start (state_of self.new (shown ++ bytes)))) }
     {
         let put = self.bdos.console().output();
         let Some(rest) = behind(&self.ahead, put) else {

@@ -1,8 +1,11 @@
 //! What a session does before a step that asks for input.
 
-ghost use Rattle.std.specs.Prelude.{List, Option, ℕ};
-ghost use Rattle.cpm_run.specs.Play.{PlayState};
-ghost use Rattle.cpm_run.specs.Private.Playing.{Continues, IsStill, SoFar};
+ghost use Rattle.std.specs.Prelude.{◌≡◌, [], IfOk, List, OnOk, Option, ℕ};
+ghost use Rattle.cpm_console.specs.Dialog.{dialog_of, put_by};
+ghost use Rattle.cpm_console.specs.Line.{line_transcript};
+ghost use Rattle.cpm_run.specs.Play.{IsEcho, PlayState};
+ghost use Rattle.cpm_run.specs.Seat.{Seat};
+ghost use Rattle.cpm_run.specs.Private.Playing.{Continues, IsBetween, IsStill, SoFar, Waits, WaitsOn, state_of};
 
 use crate::arriving::PlayEnd;
 use crate::asking::{Need, needed};
@@ -15,6 +18,10 @@ use std::alloc::{AllocError, Global};
 /// How often the keyboard is asked for a byte before a session gives up. At ten times a second that takes 13 years.
 const MOST_WAITS: u32 = u32::MAX;
 
+/// After this number of steps the keyboard is looked at even if no step has asked for it, so that a person can leave a program that only
+/// prints.
+const LONGEST_UNSEEN: u64 = 2_000_000;
+
 /// What function 10 has put so far, and whether the line is whole.
 #[derive(Drop)]
 struct Echo {
@@ -23,7 +30,9 @@ struct Echo {
 }
 
 /// What function 10 puts for these bytes.
-fn echo_of(alloc: Global, typed: &[u8], column: u16, room: u8) -> Result<Echo, AllocError> {
+fn echo_of(alloc: Global, typed: &[u8], column: u16, room: u8) -> Result<Echo, AllocError>
+    ensures { IfOk result (λ echo. echo.bytes.items ≡ put_by (line_transcript room (record { bytes = []; start = column; column = column }) typed.now).events) }
+{
     let mut input = Vec::with_capacity(alloc, typed.len())?;
     input.extend_from_slice(typed)?;
     let mut terminal = Terminal {
@@ -31,10 +40,11 @@ fn echo_of(alloc: Global, typed: &[u8], column: u16, room: u8) -> Result<Echo, A
         column,
     };
     let mut line = [0; 255];
-    let is_whole = !matches!(
-        terminal.read_line(room, &mut line),
-        Err(ConsoleError::EndOfInput)
-    );
+    let is_whole = match terminal.read_line(room, &mut line) {
+        Ok(_) => true,
+        Err(ConsoleError::EndOfInput) => false,
+        Err(ConsoleError::ConsoleFault) => return Err(AllocError),
+    };
     let mut bytes = Vec::new(alloc);
     bytes.extend_from_slice(terminal.console.output())?;
     Ok(Echo { bytes, is_whole })
@@ -44,7 +54,8 @@ impl<S: Sectors> Playing<S> {
     /// Waits until a byte is there, or no byte will come.
     fn await_byte<K: Station>(&mut self, alloc: Global, station: &mut K) -> Result<(), PlayEnd>
         ensures still { IsStill self.old self.new }
-        ensures so_far { (limit : ℕ) (start : PlayState S) (before : Option (List ℕ)) → SoFar S.sectors S.faults start before self.old (K.shown station.old) → Continues S.sectors S.faults limit result start before self.new (K.shown station.new) }
+        ensures waits { (limit : ℕ) (start : PlayState S) (before : Seat) → Waits S.sectors S.faults limit start before self.old (K.seat station.old) → self.old.ahead.items ≡ []
+            → WaitsOn S.sectors S.faults limit result start before self.new (K.seat station.new) }
     {
         for _ in 0..MOST_WAITS {
             if self.ended || !self.bdos.console().typed().is_empty() {
@@ -58,7 +69,8 @@ impl<S: Sectors> Playing<S> {
     /// Shows the echo of the line that is being typed, as far as it is not shown yet. Answers whether the line is whole.
     fn echo<K: Station>(&mut self, alloc: Global, station: &mut K) -> Result<bool, PlayEnd>
         ensures still { IsStill self.old self.new }
-        ensures so_far { (limit : ℕ) (start : PlayState S) (before : Option (List ℕ)) → SoFar S.sectors S.faults start before self.old (K.shown station.old) → Continues S.sectors S.faults limit result start before self.new (K.shown station.new) }
+        ensures echo { OnOk result (IsEcho (state_of self.new []).run self.new.ahead.items) }
+        ensures waits { (limit : ℕ) (start : PlayState S) (before : Seat) → Waits S.sectors S.faults limit start before self.old (K.seat station.old) → WaitsOn S.sectors S.faults limit result start before self.new (K.seat station.new) }
     {
         let room = self.memory.get(self.cpu.main.de());
         let echo = echo_of(alloc, self.bdos.console().typed(), self.bdos.column(), room)?;
@@ -75,7 +87,7 @@ impl<S: Sectors> Playing<S> {
     /// Waits until a line is whole, or no byte will come. Shows what is typed meanwhile.
     fn await_line<K: Station>(&mut self, alloc: Global, station: &mut K) -> Result<(), PlayEnd>
         ensures still { IsStill self.old self.new }
-        ensures so_far { (limit : ℕ) (start : PlayState S) (before : Option (List ℕ)) → SoFar S.sectors S.faults start before self.old (K.shown station.old) → Continues S.sectors S.faults limit result start before self.new (K.shown station.new) }
+        ensures waits { (limit : ℕ) (start : PlayState S) (before : Seat) → Waits S.sectors S.faults limit start before self.old (K.seat station.old) → WaitsOn S.sectors S.faults limit result start before self.new (K.seat station.new) }
     {
         for _ in 0..MOST_WAITS {
             if self.echo(alloc, station)? || self.ended {
@@ -91,7 +103,9 @@ impl<S: Sectors> Playing<S> {
     /// Shows what was put, so that nothing is hidden while somebody is asked.
     pub(crate) fn show_all<K: Station>(&mut self, station: &mut K) -> Result<(), PlayEnd>
         ensures still { IsStill self.old self.new }
-        ensures so_far { (limit : ℕ) (start : PlayState S) (before : Option (List ℕ)) → SoFar S.sectors S.faults start before self.old (K.shown station.old) → Continues S.sectors S.faults limit result start before self.new (K.shown station.new) }
+        ensures ahead { OnOk result (self.new.ahead.items ≡ []) }
+        ensures all { OnOk result (self.new.bdos.terminal.console.output ≡ Some []) }
+        ensures so_far { (limit : ℕ) (start : PlayState S) (before : Seat) → SoFar S.sectors S.faults start before self.old (K.seat station.old) → Continues S.sectors S.faults limit result start before self.new (K.seat station.new) }
     {
         match self.show(station) {
             Ok(()) => Ok(()),
@@ -99,25 +113,33 @@ impl<S: Sectors> Playing<S> {
         }
     }
 
-    /// Sees that the next step has the input that it needs.
+    /// Shows all, and looks at the keyboard once or until the next step has what it takes.
+    fn ask<K: Station>(&mut self, alloc: Global, station: &mut K, need: Need) -> Result<(), PlayEnd>
+        ensures still { IsStill self.old self.new }
+        ensures so_far { (limit : ℕ) (start : PlayState S) (before : Seat) → SoFar S.sectors S.faults start before self.old (K.seat station.old) → IsBetween limit self.old → Continues S.sectors S.faults limit result start before self.new (K.seat station.new) }
+    {
+        self.show_all(station)?;
+        match need {
+            Need::Nothing | Need::Status => self.listen(alloc, station, Patience::Poll),
+            Need::Byte => self.await_byte(alloc, station),
+            Need::Line => self.await_line(alloc, station),
+        }
+    }
+
+    /// Sees that the next step has the input that it needs, and that the keyboard is looked at from time to time.
     pub(crate) fn attend<K: Station>(
         &mut self,
         alloc: Global,
         station: &mut K,
     ) -> Result<(), PlayEnd>
         ensures still { IsStill self.old self.new }
-        ensures so_far { (limit : ℕ) (start : PlayState S) (before : Option (List ℕ)) → SoFar S.sectors S.faults start before self.old (K.shown station.old) → Continues S.sectors S.faults limit result start before self.new (K.shown station.new) }
+        ensures so_far { (limit : ℕ) (start : PlayState S) (before : Seat) → SoFar S.sectors S.faults start before self.old (K.seat station.old) → IsBetween limit self.old → Continues S.sectors S.faults limit result start before self.new (K.seat station.new) }
     {
         let need = needed(&self.cpu);
-        if need == Need::Nothing {
+        if need == Need::Nothing && self.turns.saturating_sub(self.looked) < LONGEST_UNSEEN {
             return Ok(());
         }
-        self.show_all(station)?;
-        match need {
-            Need::Nothing => Ok(()),
-            Need::Status => self.listen(alloc, station, Patience::Poll),
-            Need::Byte => self.await_byte(alloc, station),
-            Need::Line => self.await_line(alloc, station),
-        }
+        self.looked = self.turns;
+        self.ask(alloc, station, need)
     }
 }

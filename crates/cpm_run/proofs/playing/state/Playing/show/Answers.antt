@@ -10,11 +10,12 @@ use Rattle.cpm_run.proofs.playing.state.Playing.show.Goals as goal
 
 pub returns-clause-all : goal.returns-clause-all
 returns-clause-all g c = λ before shown was.
-    (c.output-put.result.now, ap (λ (d : Dialog). d.output) (sym c.console.ensures) ∙ c.output-put.ensures, shown_all before _ _ shown c.args.self.now.ahead.items c.in-Some.rest.now c.output-put.result.now was c.in_ok-show.ensures (c.in-Some.ensures ∙ ap (λ (l : List ℕ). l ++ c.in-Some.rest.now) c.deref.ensures.value))
+    (c.output-put.result.now, ap (λ (d : Dialog). d.output) (sym c.console.ensures) ∙ c.output-put.ensures, shown_all before _ _ shown c.args.self.now.ahead.items c.in-Some.rest.now c.output-put.result.now was c.in_ok-show.ensures.shown (c.in-Some.ensures ∙ ap (λ (l : List ℕ). l ++ c.in-Some.rest.now) c.deref.ensures.value))
 
 pub returns-clause-rest : goal.returns-clause-rest
 returns-clause-rest g c = (
   c.clear.ensures.items,
+  ap (λ (b : System _ Dialog). b.terminal.console.output) c.clear_output.ensures,
   λ start shown bytes put before.
       subst (λ (b : System _ Dialog). PlaysOn g.S.Sectors.sectors g.S.Sectors.faults start (record { run = record { machine = machine c.args.self.now.cpu c.args.self.now.memory; system = b }; turns = c.args.self.now.turns; arrivals = c.args.self.now.arrivals.items; shown = shown ++ bytes })) (sym c.clear_output.ensures)
       (shows bytes start (state_of c.args.self.now shown) before put),
