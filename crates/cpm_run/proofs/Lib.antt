@@ -3,4 +3,5 @@ mod Recorded
 mod Walked
 mod Going
 mod Sitting
+mod Replayed
 pub mod OneRun

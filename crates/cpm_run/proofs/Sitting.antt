@@ -16,14 +16,14 @@ use Rattle.cpm_bdos.specs.System.{System, with_console}
 use Rattle.cpm_run.specs.declared.ending.Why.{Why}
 use Rattle.cpm_run.specs.Turns.{Goes, IsTurn, RunState, is_finished, step_end}
 use Rattle.cpm_run.specs.Turns.Goes.{none, more}
-use Rattle.cpm_run.specs.Play.{Arrives, EndsBy, PlayedRunEnds, IsEcho, PlayEnds, PlayState, PlaysOn, Sees, arrived}
-use Rattle.cpm_run.specs.Seat.{Listens, Seat, Takes}
+use Rattle.cpm_run.specs.Play.{EndsBy, PlayedRunEnds, PlayEnds, PlayState, PlaysOn, Sees, arrived}
+use Rattle.cpm_run.specs.Seat.{Seat}
 use Rattle.cpm_run.specs.Play.PlaysOn.{goes, came}
 use Rattle.cpm_run.specs.declared.arriving.Arrival.{Arrival}
 use Rattle.cpm_run.specs.declared.arriving.PlayEnd.{PlayEnd}
 use Rattle.cpm_run.specs.declared.arriving.PlayEnd.TheVariants as play
 use Rattle.cpm_run.specs.declared.playing.state.Playing.{Playing}
-use Rattle.cpm_run.specs.Private.Playing.{Continues, Ends, IsBetween, IsOver, IsStill, SoFar, Waits, WaitsOn, Went, state_of, taken}
+use Rattle.cpm_run.specs.Private.Playing.{Continues, Ends, IsBetween, IsOver, IsStill, SoFar, Stands, Waits, WaitsOn, Went, bytes_of, state_of}
 use Rattle.cpm_run.proofs.Going.{Pauses, at, go_on, step_is_turn, system, turn_as, unwatched}
 
 -- bytes that were shown ahead, and then the rest of what was put
@@ -44,27 +44,20 @@ take_min n xs is = elim (cases_lt n 256) [
 ]
 
 -- bytes of which each is one that arrived
-arrived_bytes : (turns : ℕ) (bytes : List ℕ) → map (λ (a : Arrival). a.byte) (arrived turns bytes) ≡ bytes
+arrived_bytes : (turns : ℕ) (bytes : List ℕ) → bytes_of (arrived turns bytes) ≡ bytes
 arrived_bytes turns [] = refl
 arrived_bytes turns (byte ∷ bytes) = ap (λ l. byte ∷ l) (arrived_bytes turns bytes)
 
 -- keys came after those that had come
-pub arrives_more : (before mid after : Seat) (turns : ℕ) (bytes : List ℕ) (arrivals : List Arrival) → Arrives before mid arrivals → Takes bytes mid after → Arrives before after (arrivals ++ arrived turns bytes)
-arrives_more before mid after turns bytes arrivals had takes = record {
-  came = subst (Consumes before.coming after.coming) (ap (λ l. map (λ (a : Arrival). a.byte) arrivals ++ l) (sym (arrived_bytes turns bytes)) ∙ sym (map-append (λ (a : Arrival). a.byte) arrivals (arrived turns bytes)))
-      (Consumes-trans before.coming mid.coming after.coming _ bytes had.came takes.coming);
-  left = takes.left ∙ had.left;
-}
+pub came_more : (before mid after : Option (List ℕ)) (turns : ℕ) (bytes : List ℕ) (arrivals all : List Arrival) → all ≡ arrivals ++ arrived turns bytes → Consumes before mid (bytes_of arrivals) → Consumes mid after bytes
+    → Consumes before after (bytes_of all)
+came_more before mid after turns bytes arrivals all is had takes =
+    subst (Consumes before after) (ap (λ l. bytes_of arrivals ++ l) (sym (arrived_bytes turns bytes)) ∙ sym (map-append (λ (a : Arrival). a.byte) arrivals (arrived turns bytes)) ∙ ap bytes_of (sym is))
+    (Consumes-trans before mid after (bytes_of arrivals) bytes had takes)
 
 -- no key came
-pub arrives_kept : (before mid after : Seat) (arrivals : List Arrival) → Arrives before mid arrivals → after.coming ≡ mid.coming → after.left ≡ mid.left → Arrives before after arrivals
-arrives_kept before mid after arrivals had coming left = record {
-  came = subst (λ (k : Option (List ℕ)). Consumes before.coming k (map (λ (a : Arrival). a.byte) arrivals)) (sym coming) had.came;
-  left = left ∙ had.left;
-}
-
-pub arrives_as : (before after : Seat) (arrivals same : List Arrival) → same ≡ arrivals → Arrives before after arrivals → Arrives before after same
-arrives_as before after arrivals same e had = subst (Arrives before after) (sym e) had
+pub came_kept : (before mid after : Option (List ℕ)) (arrivals same : List Arrival) → after ≡ mid → same ≡ arrivals → Consumes before mid (bytes_of arrivals) → Consumes before after (bytes_of same)
+came_kept before mid after arrivals same coming is had = subst (λ l. Consumes before after (bytes_of l)) (sym is) (subst (λ k. Consumes before k (bytes_of arrivals)) (sym coming) had)
 
 -- two calls that make no step
 pub still : {S : Type 0} (old mid new : Playing S) → IsStill old mid → IsStill mid new → IsStill old new
@@ -130,49 +123,72 @@ module _ {S : Type 0} (sectors : S → Image) (faults : S → ℕ) where
   unclosed limit play.NoMemory start before after p other ends = (ends.shown, (ends.plays, ends.next.going, ends.next.below), (ends.all, ends.left, (p.ahead.items, ends.seen)))
   unclosed limit play.Failed start before after p other ends = (ends.shown, inl ends.plays, ends.left)
 
-  -- nothing came, and the session waits on
+  -- keys came, and the session waits on
   pub waits_kept : (limit : ℕ) (start : PlayState S) (before mid after : Seat) (p q : Playing S) → Waits sectors faults limit start before p mid → q.cpu ≡ p.cpu → q.turns ≡ p.turns
       → q.ahead.items ≡ p.ahead.items → q.bdos.terminal.console.output ≡ p.bdos.terminal.console.output → ((shown : List ℕ) → PlaysOn sectors faults start (state_of p shown) → PlaysOn sectors faults start (state_of q shown))
-      → after.shown ≡ mid.shown → Arrives before after q.arrivals.items → Waits sectors faults limit start before q after
-  waits_kept limit start before mid after p q waits cpu turns ahead output plays shown arrives = record {
-    so_far = record {
-      shown = waits.so_far.shown;
-      plays = plays waits.so_far.shown waits.so_far.plays;
-      seen = subst (λ (a : List ℕ). Appends before.shown after.shown (waits.so_far.shown ++ a)) (sym ahead) (subst (λ (k : Option (List ℕ)). Appends before.shown k (waits.so_far.shown ++ p.ahead.items)) (sym shown) waits.so_far.seen);
-      arrives = arrives;
-    };
-    next = between_kept limit p q cpu turns waits.next;
-    all = output ∙ waits.all;
-  }
+      → after.shown ≡ mid.shown → after.left ≡ mid.left → Consumes before.coming after.coming (bytes_of q.arrivals.items) → Waits sectors faults limit start before q after
+  waits_kept limit start before mid after p q waits cpu turns ahead output plays shown left taken =
+      let stands = waits.so_far.stands in record {
+        so_far = record {
+          stands = record {
+            shown = stands.shown;
+            plays = plays stands.shown stands.plays;
+            seen = subst (λ (a : List ℕ). Appends before.shown after.shown (stands.shown ++ a)) (sym ahead) (subst (λ (k : Option (List ℕ)). Appends before.shown k (stands.shown ++ p.ahead.items)) (sym shown) stands.seen);
+            left = left ∙ stands.left;
+          };
+          came = taken;
+        };
+        next = between_kept limit p q cpu turns waits.next;
+        all = output ∙ waits.all;
+      }
 
   -- no step was made yet
-  pub at_first : (start : PlayState S) (before : Seat) (p : Playing S) → PlaysOn sectors faults start (state_of p []) → p.ahead.items ≡ [] → p.arrivals.items ≡ [] → SoFar sectors faults start before p before
-  at_first start before p plays ahead none_came = record {
+  pub at_first : (start : PlayState S) (before : Seat) (p : Playing S) → PlaysOn sectors faults start (state_of p []) → p.ahead.items ≡ [] → Stands sectors faults start before p before
+  at_first start before p plays ahead = record {
     shown = [];
     plays = plays;
     seen = none_ahead before.shown before.shown [] p.ahead.items (Appends-nil before.shown) ahead;
-    arrives = arrives_as before before [] p.arrivals.items none_came (record { came = Consumes-nil before.coming; left = refl });
+    left = refl;
   }
 
+  pub none_came_yet : (start : PlayState S) (before : Seat) (p : Playing S) → Stands sectors faults start before p before → p.arrivals.items ≡ [] → SoFar sectors faults start before p before
+  none_came_yet start before p stands none_yet = record { stands = stands; came = subst (λ l. Consumes before.coming before.coming (bytes_of l)) (sym none_yet) (Consumes-nil before.coming) }
+
   -- steps were made, and nobody was asked
-  pub moved : (start : PlayState S) (before after : Seat) (p q : Playing S) (first : SoFar sectors faults start before p after) → PlaysOn sectors faults start (state_of q first.shown)
-      → q.ahead.items ≡ p.ahead.items → q.arrivals.items ≡ p.arrivals.items → SoFar sectors faults start before q after
-  moved start before after p q first plays ahead arrivals = record {
+  pub moved : (start : PlayState S) (before after : Seat) (p q : Playing S) (first : Stands sectors faults start before p after) → PlaysOn sectors faults start (state_of q first.shown)
+      → q.ahead.items ≡ p.ahead.items → Stands sectors faults start before q after
+  moved start before after p q first plays ahead = record {
     shown = first.shown;
     plays = plays;
     seen = subst (λ (a : List ℕ). Appends before.shown after.shown (first.shown ++ a)) (sym ahead) first.seen;
-    arrives = arrives_as before after _ _ arrivals first.arrives;
+    left = first.left;
+  }
+
+  pub moved_on : (start : PlayState S) (before after : Seat) (p q : Playing S) (first : SoFar sectors faults start before p after) → PlaysOn sectors faults start (state_of q first.stands.shown)
+      → q.ahead.items ≡ p.ahead.items → q.arrivals.items ≡ p.arrivals.items → SoFar sectors faults start before q after
+  moved_on start before after p q first plays ahead arrivals = record {
+    stands = moved start before after p q first.stands plays ahead;
+    came = came_kept before.coming after.coming after.coming _ _ refl arrivals first.came;
   }
 
   -- the run ended with these steps
-  pub over : (limit : ℕ) (end : Why) (start : PlayState S) (before after : Seat) (p q : Playing S) (first : SoFar sectors faults start before p after) → PlayedRunEnds sectors faults limit start end (state_of q first.shown)
-      → q.ahead.items ≡ p.ahead.items → q.arrivals.items ≡ p.arrivals.items → IsOver sectors faults limit start end before q after
-  over limit end start before after p q first ends ahead arrivals = record {
+  pub over : (limit : ℕ) (end : Why) (start : PlayState S) (before after : Seat) (p q : Playing S) (first : Stands sectors faults start before p after) → PlayedRunEnds sectors faults limit start end (state_of q first.shown)
+      → q.ahead.items ≡ p.ahead.items → IsOver sectors faults limit start end before q after
+  over limit end start before after p q first ends ahead = record {
     shown = first.shown;
     ends = ends;
     seen = subst (λ (a : List ℕ). Appends before.shown after.shown (first.shown ++ a)) (sym ahead) first.seen;
-    arrives = arrives_as before after _ _ arrivals first.arrives;
+    left = first.left;
   }
+
+  pub over_here : (limit : ℕ) (end : Why) (start : PlayState S) (before after : Seat) (p q : Playing S) (first : SoFar sectors faults start before p after) → PlayedRunEnds sectors faults limit start end (state_of q first.stands.shown)
+      → q.ahead.items ≡ p.ahead.items → q.arrivals.items ≡ p.arrivals.items → Ends sectors faults limit (play.Run end) start before q after
+  over_here limit end start before after p q first ends ahead arrivals = (over limit end start before after p q first.stands ends ahead, came_kept before.coming after.coming after.coming _ _ refl arrivals first.came)
+
+  -- all was shown, and no key came
+  pub shown_on : (start : PlayState S) (before mid after : Seat) (p q : Playing S) → Consumes before.coming mid.coming (bytes_of p.arrivals.items) → Stands sectors faults start before q after → after.coming ≡ mid.coming
+      → q.arrivals.items ≡ p.arrivals.items → SoFar sectors faults start before q after
+  shown_on start before mid after p q taken stands coming arrivals = record { stands = stands; came = came_kept before.coming mid.coming after.coming _ _ coming arrivals taken }
 
   -- all is shown before a step
   pub begun : (limit : ℕ) (start : PlayState S) (before after : Seat) (old p : Playing S) → SoFar sectors faults start before p after → IsStill old p → p.bdos.terminal.console.output ≡ Some [] → IsBetween limit old
@@ -185,7 +201,7 @@ module _ {S : Type 0} (sectors : S → Image) (faults : S → ℕ) where
 
   -- a session in which the keyboard or the screen failed
   pub broken : (limit : ℕ) (start : PlayState S) (before after : Seat) (p : Playing S) → Waits sectors faults limit start before p after → Ends sectors faults limit play.Failed start before p after
-  broken limit start before after p waits = record { shown = waits.so_far.shown; plays = waits.so_far.plays; left = waits.so_far.arrives.left }
+  broken limit start before after p waits = record { shown = waits.so_far.stands.shown; plays = waits.so_far.stands.plays; left = waits.so_far.stands.left }
 
   -- no step ended the run
   pub gone : (end : Option Why) (start new : PlayState S) → ((why : Why) → end ≢ Some why) → Went sectors faults end start new → PlaysOn sectors faults start new

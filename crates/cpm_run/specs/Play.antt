@@ -104,12 +104,36 @@ IsPlayed {S} sectors faults file words disk limit before end turns pc left arriv
 
 -- ---- the same session again
 
--- These bytes of a record have come, and each that has not was to come after this number of steps or later.
-abbrev pub Follows : List Arrival → ℕ → List Arrival → Type 0
-Follows recorded turns arrivals = (n : ℕ) × (arrivals ≡ take n recorded) × ((k : ℕ) (later : Arrival) → n ≤ k → slice_get recorded k ≡ Some later → turns ≤ later.turn)
+-- The numbers of steps of a record do not go down, and none is above the last.
+pub record IsInOrder (recorded : List Arrival) (last : ℕ) : Type 0 where
+  pub rising : (j k : ℕ) (one later : Arrival) → j ≤ k → slice_get recorded j ≡ Some one → slice_get recorded k ≡ Some later → one.turn ≤ later.turn
+  pub within : (k : ℕ) (one : Arrival) → slice_get recorded k ≡ Some one → one.turn ≤ last
 
--- How a session ends that is played again from a record whose last step is `last`: with the run; or after the last step, which is what `Left` says
--- here; or as a session at a keyboard.
+-- Each byte of a record came after its number of steps; those that did not come were to come after this number of steps or later.
+pub record Follows (recorded : List Arrival) (last turns : ℕ) (arrivals : List Arrival) : Type 0 where
+  pub count : ℕ
+  pub front : arrivals ≡ take count recorded
+  pub later : (k : ℕ) (other : Arrival) → count ≤ k → slice_get recorded k ≡ Some other → turns ≤ other.turn
+  pub within : turns ≤ last
+
+-- How a session ends that is played again from a record with this last number of steps: with the run; when these steps are made, which is what
+-- `Left` says here; or since the screen failed or memory ran out.
 abbrev pub ReplayEnds : {S : Type 0} → (S → Image) → (S → ℕ) → ℕ → ℕ → PlayState S → PlayEnd → PlayState S → Type 0
-ReplayEnds sectors faults limit last start play.Left new = PlaysOn sectors faults start new × (is_finished new.run.machine.cpu.pc ≡ false) × (new.turns ≡ last)
-ReplayEnds sectors faults limit last start end new = PlayEnds sectors faults limit start end new
+ReplayEnds sectors faults limit last start (play.Run end) new = PlayedRunEnds sectors faults limit start end new
+ReplayEnds sectors faults limit last start play.Left new = PlaysOn sectors faults start new × (is_finished new.run.machine.cpu.pc ≡ false) × (last ≤ new.turns)
+ReplayEnds sectors faults limit last start play.Failed new = PlaysOn sectors faults start new ⊎ ((end : Why) × PlayedRunEnds sectors faults limit start end new)
+ReplayEnds sectors faults limit last start play.NoMemory new = PlaysOn sectors faults start new
+
+-- All is shown that the program put, if neither the screen failed nor memory ran out.
+abbrev pub IsShownAgain : {S : Type 0} → PlayEnd → Seat → Seat → PlayState S → Type 0
+IsShownAgain play.Failed before after new = after.left ≡ before.left
+IsShownAgain play.NoMemory before after new = after.left ≡ before.left
+IsShownAgain _ before after new = (bytes : List ℕ) × (new.run.system.terminal.console.output ≡ Some bytes) × Appends before.shown after.shown (new.shown ++ bytes) × (after.left ≡ before.left)
+
+-- A program is played again from a record. If the record is in order, the bytes came as it says.
+abbrev pub IsReplayed : {S : Type 0} → (S → Image) → (S → ℕ) → List ℕ → List (List ℕ) → Mounted S → ℕ → List Arrival → ℕ → Seat → PlayEnd → ℕ → ℕ → Mounted S → List Arrival → Seat → Type 0
+IsReplayed {S} sectors faults file words disk limit recorded last before end turns pc left arrivals after =
+    ((cpu : Cpu) × (memory : List ℕ) × (new : PlayState S) × IsStart file words (Ok (cpu, memory)) × ReplayEnds sectors faults limit last (first_state cpu memory disk) end new
+    × (turns ≡ new.turns) × (turns ≤ limit) × (pc ≡ new.run.machine.cpu.pc) × (left ≡ new.run.system.disk) × (arrivals ≡ new.arrivals) × IsShownAgain end before after new
+    × (IsInOrder recorded last → Follows recorded last turns arrivals))
+    ⊎ ((no : StartFault) × IsStart file words (Err no) × (end ≡ play.Run (unstarted no)) × (turns ≡ 0) × (pc ≡ 0x0100) × (left ≡ disk) × (arrivals ≡ []) × (after ≡ before))

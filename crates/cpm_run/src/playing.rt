@@ -1,15 +1,18 @@
 //! Runs a program for somebody at a keyboard.
 
-ghost use Rattle.std.specs.Prelude.{◌≡◌, ◌≤◌, ◌<◌, List, OnOk, ℕ, map};
+ghost use Rattle.std.specs.Prelude.{◌≡◌, ◌≤◌, ◌<◌, [], List, OnOk, ℕ, map};
+ghost use Rattle.cpm_run.specs.declared.arriving.PlayEnd.TheVariants as play;
+ghost use Rattle.cpm_run.specs.Run.{unstarted};
 ghost use Rattle.cpm_run.specs.Play.{IsPlayed, PlayState, PlayEnds, Sees};
 ghost use Rattle.cpm_run.specs.Seat.{Seat};
 ghost use Rattle.cpm_run.specs.Private.Playing.{Continues, Ends, OnlyShows, SoFar, state_of};
 
-mod state;
+pub(crate) mod state;
 mod waiting;
 
 use crate::arriving::{Arrival, PlayEnd};
 use crate::ending::{Why, unstarted};
+use crate::fault::StartFault;
 use crate::places::is_finished;
 use crate::starting::start;
 use crate::station::Station;
@@ -19,10 +22,7 @@ use state::Playing;
 use std::alloc::Global;
 
 /// At most this number of steps are made before the keyboard is looked at, so that a person can leave a program that makes no calls.
-const SLICE: u64 = 2_000_000;
-
-/// At most this number of bytes are put before they are shown.
-const MOST_HELD: usize = 4_096;
+pub(crate) const SLICE: u64 = 2_000_000;
 
 /// How a session ended, the disk then, and the bytes that came.
 #[derive(Drop)]
@@ -38,17 +38,6 @@ pub struct Played<S: Sectors> {
 }
 
 impl<S: Sectors> Playing<S> {
-    /// Shows what was put, if it is much, or if a part of it is shown already.
-    fn show_much<K: Station>(&mut self, station: &mut K) -> Result<(), PlayEnd>
-        ensures turns { self.new.turns ≡ self.old.turns }
-        ensures so_far { (limit : ℕ) (start : PlayState S) (before : Seat) → SoFar S.sectors S.faults start before self.old (K.seat station.old) → Continues S.sectors S.faults limit result start before self.new (K.seat station.new) }
-    {
-        if !self.ahead.is_empty() || self.bdos.console().output().len() >= MOST_HELD {
-            return self.show_all(station);
-        }
-        Ok(())
-    }
-
     /// Makes steps up to an address of the system, sees that the next step has the input that it needs, and makes it.
     fn go_round<K: Station>(
         &mut self,
@@ -76,7 +65,10 @@ impl<S: Sectors> Playing<S> {
         if let Some(why) = self.take_turn() {
             return Err(PlayEnd::Run(why));
         }
-        self.show_much(station)
+        match self.show_much(station) {
+            Ok(()) => Ok(()),
+            Err(_) => Err(PlayEnd::Failed),
+        }
     }
 
     /// Makes steps until the session ends.
@@ -89,6 +81,24 @@ impl<S: Sectors> Playing<S> {
             if let Err(end) = self.go_round(alloc, station, limit) {
                 return end;
             }
+        }
+    }
+
+    /// How the session ended, and what it leaves.
+    pub(crate) fn into_played(self, end: PlayEnd) -> Played<S>
+        ensures end { result.end ≡ end }
+        ensures turns { result.turns ≡ self.turns }
+        ensures pc { result.pc ≡ self.cpu.pc }
+        ensures disk { result.disk ≡ self.bdos.disk }
+        ensures arrivals { result.arrivals.items ≡ self.arrivals.items }
+    {
+        let (disk, _) = self.bdos.into_parts();
+        Played {
+            end,
+            turns: self.turns,
+            pc: self.cpu.pc,
+            disk,
+            arrivals: self.arrivals,
         }
     }
 
@@ -105,6 +115,23 @@ impl<S: Sectors> Playing<S> {
             },
             other => other,
         }
+    }
+}
+
+/// What is left of a program that cannot be started.
+pub(crate) fn unplayed<S: Sectors>(alloc: Global, fault: StartFault, disk: Disk<S>) -> Played<S>
+    ensures end { result.end ≡ play.Run (unstarted fault) }
+    ensures turns { result.turns ≡ 0 }
+    ensures pc { result.pc ≡ 0x0100 }
+    ensures disk { result.disk ≡ disk }
+    ensures arrivals { result.arrivals.items ≡ [] }
+{
+    Played {
+        end: PlayEnd::Run(unstarted(fault)),
+        turns: 0,
+        pc: 0x0100,
+        disk,
+        arrivals: Vec::new(alloc),
     }
 }
 
@@ -125,25 +152,10 @@ pub fn play<S: Sectors, K: Station>(
 {
     let (cpu, memory) = match start(alloc, com, words) {
         Ok(state) => state,
-        Err(fault) => {
-            return Played {
-                end: PlayEnd::Run(unstarted(fault)),
-                turns: 0,
-                pc: 0x0100,
-                disk,
-                arrivals: Vec::new(alloc),
-            };
-        }
+        Err(fault) => return unplayed(alloc, fault, disk),
     };
     let mut playing = Playing::new(alloc, cpu, memory, disk);
     let end = playing.play(alloc, station, limit);
     let end = playing.close(station, end);
-    let (disk, _) = playing.bdos.into_parts();
-    Played {
-        end,
-        turns: playing.turns,
-        pc: playing.cpu.pc,
-        disk,
-        arrivals: playing.arrivals,
-    }
+    playing.into_played(end)
 }

@@ -1,13 +1,13 @@
 -- A session as the code keeps it.
-use Rattle.std.specs.Prelude.{◌≡◌, ◌<◌, ◌++◌, ℕ, true, false, List, [], Option, None, Some, Result, Ok, Err}
-use Rattle.std.specs.Io.KnownBytes.{Appends}
+use Rattle.std.specs.Prelude.{◌≡◌, ◌<◌, ◌≤◌, ◌++◌, ℕ, Bool, true, false, map, List, [], Option, None, Some, Result, Ok, Err}
+use Rattle.std.specs.Io.KnownBytes.{Appends, Consumes}
 use Rattle.z80_cpu.specs.State.{machine}
 use Rattle.cpm_disk.specs.Image.{Image}
 use Rattle.cpm_run.specs.declared.ending.Why.{Why}
 use Rattle.cpm_run.specs.declared.arriving.PlayEnd.{PlayEnd}
 use Rattle.cpm_run.specs.declared.arriving.PlayEnd.TheVariants as play
 use Rattle.cpm_run.specs.declared.playing.state.Playing.{Playing}
-use Rattle.cpm_run.specs.Play.{Arrives, EndsBy, IsEcho, PlayState, PlaysOn, PlayedRunEnds, arrived}
+use Rattle.cpm_run.specs.Play.{EndsBy, IsEcho, PlayState, PlaysOn, PlayedRunEnds, arrived}
 use Rattle.cpm_run.specs.declared.arriving.Arrival.{Arrival}
 use Rattle.cpm_run.specs.Seat.{Seat}
 use Rattle.cpm_run.specs.Turns.{is_finished}
@@ -21,19 +21,28 @@ abbrev pub Went : {S : Type 0} → (S → Image) → (S → ℕ) → Option Why 
 Went sectors faults None start new = PlaysOn sectors faults start new
 Went sectors faults (Some end) start new = EndsBy sectors faults start end new
 
+-- the bytes of those that arrived
+abbrev pub bytes_of : List Arrival → List ℕ
+bytes_of arrivals = map (λ arrival. arrival.byte) arrivals
+
 -- The session so far: the screen has what was shown, and the bytes that were shown ahead.
-pub record SoFar {S : Type 0} (sectors : S → Image) (faults : S → ℕ) (start : PlayState S) (before : Seat) (p : Playing S) (after : Seat) : Type 0 where
+pub record Stands {S : Type 0} (sectors : S → Image) (faults : S → ℕ) (start : PlayState S) (before : Seat) (p : Playing S) (after : Seat) : Type 0 where
   pub shown : List ℕ
   pub plays : PlaysOn sectors faults start (state_of p shown)
   pub seen : Appends before.shown after.shown (shown ++ p.ahead.items)
-  pub arrives : Arrives before after p.arrivals.items
+  pub left : after.left ≡ before.left
+
+-- the same, and what arrived came from the keyboard
+pub record SoFar {S : Type 0} (sectors : S → Image) (faults : S → ℕ) (start : PlayState S) (before : Seat) (p : Playing S) (after : Seat) : Type 0 where
+  pub stands : Stands sectors faults start before p after
+  pub came : Consumes before.coming after.coming (bytes_of p.arrivals.items)
 
 -- the session after a last step, or with the limit reached
 pub record IsOver {S : Type 0} (sectors : S → Image) (faults : S → ℕ) (limit : ℕ) (start : PlayState S) (end : Why) (before : Seat) (p : Playing S) (after : Seat) : Type 0 where
   pub shown : List ℕ
   pub ends : PlayedRunEnds sectors faults limit start end (state_of p shown)
   pub seen : Appends before.shown after.shown (shown ++ p.ahead.items)
-  pub arrives : Arrives before after p.arrivals.items
+  pub left : after.left ≡ before.left
 
 -- The next step is still to be made.
 pub record IsBetween {S : Type 0} (limit : ℕ) (p : Playing S) : Type 0 where
@@ -73,7 +82,7 @@ pub record IsBroken {S : Type 0} (sectors : S → Image) (faults : S → ℕ) (s
 
 -- the session after a call that ended it
 abbrev pub Ends : {S : Type 0} → (S → Image) → (S → ℕ) → ℕ → PlayEnd → PlayState S → Seat → Playing S → Seat → Type 0
-Ends sectors faults limit (play.Run end) start before p after = IsOver sectors faults limit start end before p after
+Ends sectors faults limit (play.Run end) start before p after = IsOver sectors faults limit start end before p after × Consumes before.coming after.coming (bytes_of p.arrivals.items)
 Ends sectors faults limit play.Failed start before p after = IsBroken sectors faults start before p after
 Ends sectors faults limit play.Left start before p after = IsLeft sectors faults limit start before p after
 Ends sectors faults limit play.NoMemory start before p after = IsShort sectors faults limit start before p after
@@ -82,6 +91,11 @@ Ends sectors faults limit play.NoMemory start before p after = IsShort sectors f
 abbrev pub Continues : {A : Type 0} {S : Type 0} → (S → Image) → (S → ℕ) → ℕ → Result A PlayEnd → PlayState S → Seat → Playing S → Seat → Type 0
 Continues sectors faults limit (Ok done) start before p after = SoFar sectors faults start before p after
 Continues sectors faults limit (Err end) start before p after = Ends sectors faults limit end start before p after
+
+-- the session after all was shown
+abbrev pub AfterShowing : {A E : Type 0} {S : Type 0} → (S → Image) → (S → ℕ) → Result A E → PlayState S → Seat → Playing S → Seat → Type 0
+AfterShowing sectors faults (Ok done) start before p after = Stands sectors faults start before p after
+AfterShowing sectors faults (Err e) start before p after = IsBroken sectors faults start before p after
 
 -- the same, and the next step is still to be made
 abbrev pub WaitsOn : {A : Type 0} {S : Type 0} → (S → Image) → (S → ℕ) → ℕ → Result A PlayEnd → PlayState S → Seat → Playing S → Seat → Type 0
@@ -104,3 +118,21 @@ pub record OnlyShows {S : Type 0} (old new : Playing S) : Type 0 where
   pub turns : new.turns ≡ old.turns
   pub disk : new.bdos.disk ≡ old.bdos.disk
   pub arrivals : new.arrivals.items ≡ old.arrivals.items
+
+-- The session when it is played again, after a call that may end it: with the run, or since the screen failed.
+abbrev pub Repeats : {A : Type 0} {S : Type 0} → (S → Image) → (S → ℕ) → ℕ → Result A PlayEnd → PlayState S → Seat → Playing S → Seat → Type 0
+Repeats sectors faults limit (Ok done) start before p after = Stands sectors faults start before p after
+Repeats sectors faults limit (Err (play.Run end)) start before p after = IsOver sectors faults limit start end before p after
+Repeats sectors faults limit (Err play.Failed) start before p after = IsBroken sectors faults start before p after
+Repeats sectors faults limit (Err other) start before p after = ⊥
+
+-- what it has come to when it ended
+abbrev pub RepeatsTo : {S : Type 0} → (S → Image) → (S → ℕ) → ℕ → ℕ → PlayEnd → PlayState S → Seat → Playing S → Seat → Type 0
+RepeatsTo sectors faults limit last (play.Run end) start before p after = IsOver sectors faults limit start end before p after
+RepeatsTo sectors faults limit last play.Left start before p after = Stands sectors faults start before p after × (is_finished p.cpu.pc ≡ false) × (last ≤ p.turns)
+RepeatsTo sectors faults limit last _ start before p after = IsBroken sectors faults start before p after
+
+-- The target is reached, and the next step is still to be made; or steps were made towards it.
+abbrev pub HasReached : {S : Type 0} → ℕ → ℕ → Bool → Playing S → Playing S → Type 0
+HasReached target limit true old new = IsBetween limit new × (target ≤ new.turns)
+HasReached target limit false old new = old.turns < new.turns

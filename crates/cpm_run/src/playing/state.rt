@@ -5,7 +5,7 @@ ghost use Rattle.std.specs.Io.KnownBytes.{Appends};
 ghost use Rattle.cpm_run.specs.Play.{IsEcho, PlayState, PlaysOn, arrived, first_state};
 ghost use Rattle.cpm_run.specs.Seat.{Seat};
 ghost use Rattle.cpm_run.specs.Turns.{is_finished};
-ghost use Rattle.cpm_run.specs.Private.Playing.{IsStill, OnlyShows, Waits, WaitsOn, Went, state_of, taken};
+ghost use Rattle.cpm_run.specs.Private.Playing.{AfterShowing, IsStill, OnlyShows, Stands, Waits, WaitsOn, Went, state_of, taken};
 
 use crate::arriving::{Arrival, PlayEnd};
 use crate::ending::Why;
@@ -24,6 +24,9 @@ const SYSTEM: Watch = Watch {
     from: BIOS,
     at: BDOS,
 };
+
+/// At most this number of bytes are put before they are shown.
+const MOST_HELD: usize = 4_096;
 
 /// A session.
 #[derive(Drop)]
@@ -179,6 +182,34 @@ impl<S: Sectors> Playing<S> {
         station.show(rest)?;
         self.ahead.clear();
         self.bdos.clear_output();
+        Ok(())
+    }
+
+    /// Shows what was put, so that nothing is hidden while somebody is asked.
+    pub(crate) fn show_all<K: Station>(&mut self, station: &mut K) -> Result<(), StationFault>
+        ensures still { IsStill self.old self.new }
+        ensures arrivals { self.new.arrivals.items ≡ self.old.arrivals.items }
+        ensures coming { OnOk result ((K.seat station.new).coming ≡ (K.seat station.old).coming) }
+        ensures ahead { OnOk result (self.new.ahead.items ≡ []) }
+        ensures all { OnOk result (self.new.bdos.terminal.console.output ≡ Some []) }
+        ensures so_far { (start : PlayState S) (before : Seat) → Stands S.sectors S.faults start before self.old (K.seat station.old) → AfterShowing S.sectors S.faults result start before self.new (K.seat station.new) }
+    {
+        match self.show(station) {
+            Ok(()) => Ok(()),
+            Err(fault) => Err(fault),
+        }
+    }
+
+    /// Shows what was put, if it is much, or if a part of it is shown already.
+    pub(crate) fn show_much<K: Station>(&mut self, station: &mut K) -> Result<(), StationFault>
+        ensures still { IsStill self.old self.new }
+        ensures arrivals { self.new.arrivals.items ≡ self.old.arrivals.items }
+        ensures coming { OnOk result ((K.seat station.new).coming ≡ (K.seat station.old).coming) }
+        ensures so_far { (start : PlayState S) (before : Seat) → Stands S.sectors S.faults start before self.old (K.seat station.old) → AfterShowing S.sectors S.faults result start before self.new (K.seat station.new) }
+    {
+        if !self.ahead.is_empty() || self.bdos.console().output().len() >= MOST_HELD {
+            return self.show_all(station);
+        }
         Ok(())
     }
 }

@@ -100,19 +100,6 @@ impl<S: Sectors> Playing<S> {
         Err(PlayEnd::Failed)
     }
 
-    /// Shows what was put, so that nothing is hidden while somebody is asked.
-    pub(crate) fn show_all<K: Station>(&mut self, station: &mut K) -> Result<(), PlayEnd>
-        ensures still { IsStill self.old self.new }
-        ensures ahead { OnOk result (self.new.ahead.items ≡ []) }
-        ensures all { OnOk result (self.new.bdos.terminal.console.output ≡ Some []) }
-        ensures so_far { (limit : ℕ) (start : PlayState S) (before : Seat) → SoFar S.sectors S.faults start before self.old (K.seat station.old) → Continues S.sectors S.faults limit result start before self.new (K.seat station.new) }
-    {
-        match self.show(station) {
-            Ok(()) => Ok(()),
-            Err(_) => Err(PlayEnd::Failed),
-        }
-    }
-
     /// Shows all, and looks at the keyboard once or until the next step has what it takes.
     fn ask<K: Station>(&mut self, alloc: Global, station: &mut K, need: Need) -> Result<(), PlayEnd>
         ensures still { IsStill self.old self.new }

@@ -1,28 +1,30 @@
-use Rattle.std.proofs.Common.{◌≤◌, ◌∙◌, [], map, inl, refl, subst, sym, ap}
-use Rattle.std.proofs.KnownBytes.{Appends-nil, Consumes-nil}
-use Rattle.cpm_run.specs.Play.{PlaysOn, first_state}
+use Rattle.std.proofs.Common.{◌≤◌, ◌∙◌, inl, subst, sym, ap}
+use Rattle.cpm_run.specs.declared.arriving.PlayEnd.{PlayEnd}
+use Rattle.cpm_run.specs.Play.{PlayEnds, PlaysOn, Sees, first_state}
 use Rattle.cpm_run.specs.Play.PlaysOn.{same}
-use Rattle.cpm_run.specs.Private.Playing.{SoFar, state_of}
-use Rattle.cpm_run.proofs.Sitting.{at_first}
+use Rattle.cpm_run.specs.Private.Playing.{state_of}
+use Rattle.cpm_run.proofs.Sitting.{at_first, none_came_yet}
 use Rattle.cpm_run.proofs.playing.play.Goals as goal
 
 pub returns : goal.returns
 returns g c =
     let start = first_state c.in-Ok.state.0 c.in-Ok.state.1 c.args.disk in
     let before = g.K.Station.seat c.args.station.now in
-    let first = at_first _ _ start before c.new-playing.result (subst (PlaysOn g.S.Sectors.sectors g.S.Sectors.faults start) (sym c.new-playing.ensures.state) (same start)) c.new-playing.ensures.ahead (ap (λ s. s.arrivals) c.new-playing.ensures.state) in
-    let closed = c.close-end.ensures.ended c.args.limit start before (c.play-end.ensures.so_far start before first) in
+    let first = at_first g.S.Sectors.sectors g.S.Sectors.faults start before c.new-playing.result (subst (PlaysOn g.S.Sectors.sectors g.S.Sectors.faults start) (sym c.new-playing.ensures.state) (same start)) c.new-playing.ensures.ahead in
+    let closed = c.close-end.ensures.ended c.args.limit start before (c.play-end.ensures.so_far start before (none_came_yet g.S.Sectors.sectors g.S.Sectors.faults start before c.new-playing.result first (ap (λ s. s.arrivals) c.new-playing.ensures.state))) in
     let others = c.close-end.ensures.others in
+    let played = c.into_played.ensures in
+    let final = state_of c.play-end.new.self closed.0 in
     inl (
       c.in-Ok.state.0,
       c.in-Ok.state.1,
-      state_of c.play-end.new.self closed.0,
+      final,
       c.in-Ok.ensures,
-      closed.1,
-      others.turns,
-      subst (λ n. n ≤ c.args.limit) (sym others.turns) c.play-end.ensures.bound,
-      ap (λ r. r.pc) others.cpu,
-      c.into_parts-disk.ensures.disk ∙ others.disk,
-      others.arrivals,
-      closed.2,
+      subst (λ (e : PlayEnd). PlayEnds g.S.Sectors.sectors g.S.Sectors.faults c.args.limit start e final) (sym played.end) closed.1,
+      played.turns ∙ others.turns,
+      subst (λ n. n ≤ c.args.limit) (sym (played.turns ∙ others.turns)) c.play-end.ensures.bound,
+      played.pc ∙ ap (λ r. r.pc) others.cpu,
+      played.disk ∙ others.disk,
+      played.arrivals ∙ others.arrivals,
+      subst (λ (e : PlayEnd). Sees e before (g.K.Station.seat c.close-end.new.station) final) (sym played.end) closed.2,
     )

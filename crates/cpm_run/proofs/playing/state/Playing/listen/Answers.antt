@@ -2,7 +2,7 @@ use Rattle.std.proofs.Common.{◌∙◌, ◌++◌, ap, subst, List, ℕ, Ok, tak
 use Rattle.cpm_run.specs.Seat.{Listens, Takes}
 use Rattle.cpm_run.specs.declared.station.Came.{Came}
 use Rattle.cpm_run.specs.Play.{arrived}
-use Rattle.cpm_run.proofs.Sitting.{arrives_as, arrives_more, take_min, waits_kept}
+use Rattle.cpm_run.proofs.Sitting.{came_more, take_min, waits_kept}
 use Rattle.cpm_run.proofs.playing.state.Playing.listen.Goals as goal
 
 pub returns-in_ok-take_in-in-Bytes-clause-waits : goal.returns-in_ok-take_in-in-Bytes-clause-waits
@@ -12,6 +12,7 @@ returns-in_ok-take_in-in-Bytes-clause-waits g c = λ limit start before waits ec
     let new = g.K.Station.seat c.listen.new.self in
     let listened : Takes (take c.in-Bytes.count c.listen.new.buffer) old new = subst (λ (k : Came). Listens old new (Ok k) c.listen.new.buffer) c.in-Bytes.is c.in_ok-count.ensures in
     let arrivals = c.args.self.now.arrivals.items in
+    let bytes = take c.in-Bytes.count c.listen.new.buffer in
     let came = taken.arrivals ∙ ap (λ (l : List ℕ). arrivals ++ arrived c.args.self.now.turns l) (ap (λ (k : ℕ). take k c.listen.new.buffer) c.min.ensures ∙ take_min c.in-Bytes.count c.listen.new.buffer c.listen.auto.buffer) in
-    waits_kept _ _ limit start before old new c.args.self.now _ waits taken.still.cpu taken.still.turns taken.ahead taken.output (λ shown. taken.came start shown) listened.shown
-    (arrives_as before new _ _ came (arrives_more before old new c.args.self.now.turns (take c.in-Bytes.count c.listen.new.buffer) arrivals waits.so_far.arrives listened))
+    waits_kept _ _ limit start before old new c.args.self.now _ waits taken.still.cpu taken.still.turns taken.ahead taken.output (λ shown. taken.came start shown) listened.shown listened.left
+    (came_more before.coming old.coming new.coming c.args.self.now.turns bytes arrivals _ came waits.so_far.came listened.coming)

@@ -1,0 +1,86 @@
+-- How a session follows a record.
+use Rattle.std.proofs.Common.{◌≡◌, ◌≢◌, ◌<◌, ◌≤◌, ◌+◌, ◌++◌, ◌∷◌, [], ℕ, Bool, true, false, List, Option, None, Some, Result, Ok, Err, length, slice_get, take, refl, sym, ap, subst, ◌∙◌, arith, inl, inr}
+use Rattle.std.proofs.lemmas.List.{take_more}
+use Rattle.std.proofs.lemmas.Option.{slice_get-get_or, slice_get_past}
+use Rattle.std.specs.Prelude.{get_or, min}
+use Rattle.std.specs.Result.{is_err}
+use Rattle.cpm_disk.specs.Image.{Image}
+use Rattle.cpm_run.specs.declared.arriving.Arrival.{Arrival}
+use Rattle.cpm_run.specs.declared.arriving.PlayEnd.{PlayEnd}
+use Rattle.cpm_run.specs.declared.arriving.PlayEnd.TheVariants as play
+use Rattle.cpm_run.specs.declared.playing.state.Playing.{Playing}
+use Rattle.cpm_run.specs.Play.{Follows, IsInOrder, PlayState, PlaysOn, arrived}
+use Rattle.cpm_run.specs.Private.Playing.{IsBroken, Repeats, RepeatsTo, Stands, state_of, taken}
+use Rattle.cpm_run.specs.Seat.{Seat}
+
+-- what stands for a byte that is not in the record
+abbrev pub no_arrival : Arrival
+no_arrival = record { turn = 0; byte = 0 }
+
+abbrev pub recorded_at : List Arrival → ℕ → Arrival
+recorded_at recorded i = get_or recorded i no_arrival
+
+-- The first `count` bytes of a record have come, and no more steps are made than the next of them allows.
+pub record KeepsTo (recorded : List Arrival) (last count turns : ℕ) (arrivals : List Arrival) : Type 0 where
+  pub front : arrivals ≡ take count recorded
+  pub within : turns ≤ last
+  pub later : (k : ℕ) (other : Arrival) → count ≤ k → slice_get recorded k ≡ Some other → turns ≤ other.turn
+
+module _ (recorded : List Arrival) (last : ℕ) (order : IsInOrder recorded last) where
+  pub follows : (count turns : ℕ) (arrivals : List Arrival) → KeepsTo recorded last count turns arrivals → Follows recorded last turns arrivals
+  follows count turns arrivals keeps = record { count = count; front = keeps.front; later = keeps.later; within = keeps.within }
+
+  -- the next byte may still come
+  pub may_go : (count turns limit : ℕ) (arrivals : List Arrival) → KeepsTo recorded last count turns arrivals → count < length recorded → turns ≤ limit → turns ≤ min (recorded_at recorded count).turn limit
+  may_go count turns limit arrivals keeps inside bound =
+      let next = keeps.later count (recorded_at recorded count) (omega arith) (slice_get-get_or recorded count no_arrival inside) in
+      omega (arith, next, bound)
+
+  -- steps were made up to the next byte at most
+  pub went_to : (count turns limit : ℕ) (arrivals same : List Arrival) → same ≡ arrivals → arrivals ≡ take count recorded → count < length recorded → turns ≤ min (recorded_at recorded count).turn limit → KeepsTo recorded last count turns same
+  went_to count turns limit arrivals same is front inside below =
+      let here = slice_get-get_or recorded count no_arrival inside in record {
+        front = is ∙ front;
+        within = let most = order.within count (recorded_at recorded count) here in omega (arith, most, below);
+        later = λ k other after there. let most = order.rising count k (recorded_at recorded count) other after here there in omega (arith, most, below);
+      }
+
+  -- a byte came in time
+  pub took_next : (count turns : ℕ) (arrivals all : List Arrival) → KeepsTo recorded last count turns arrivals → count < length recorded → turns ≡ (recorded_at recorded count).turn
+      → all ≡ arrivals ++ arrived turns ((recorded_at recorded count).byte ∷ []) → KeepsTo recorded last (count + 1) turns all
+  took_next count turns arrivals all keeps inside time is = record {
+    front = is ∙ ap (λ (n : ℕ). arrivals ++ (arrived n ((recorded_at recorded count).byte ∷ []))) time ∙ ap (λ l. l ++ (recorded_at recorded count ∷ [])) keeps.front ∙ sym (take_more recorded count no_arrival inside);
+    within = keeps.within;
+    later = λ k other after there. keeps.later k other (omega (arith, after)) there;
+  }
+
+  -- all have come
+  pub went_last : (count turns : ℕ) (arrivals same : List Arrival) → same ≡ arrivals → arrivals ≡ take count recorded → length recorded ≤ count → turns ≤ last → KeepsTo recorded last count turns same
+  went_last count turns arrivals same is front outside below = record {
+    front = is ∙ front;
+    within = below;
+    later = λ k other after there. absurd (let none : ◌≡◌ {A = Option Arrival} None (Some other) = sym (slice_get_past recorded k (omega (arith, outside, after))) ∙ there in cc);
+  }
+
+-- memory ran out for a byte, or it came
+pub taken_none : {E : Type 0} (turns : ℕ) (bytes : List ℕ) (r : Result Unit E) (arrivals : List Arrival) → is_err r ≡ true → taken turns bytes r arrivals ≡ arrivals
+taken_none turns bytes (Ok done) arrivals is = absurd (let no : false ≡ true = is in cc)
+taken_none turns bytes (Err e) arrivals is = refl
+
+pub taken_all : {E : Type 0} (turns : ℕ) (bytes : List ℕ) (r : Result Unit E) (arrivals : List Arrival) → is_err r ≡ false → taken turns bytes r arrivals ≡ arrivals ++ arrived turns bytes
+taken_all turns bytes (Ok done) arrivals is = refl
+taken_all turns bytes (Err e) arrivals is = absurd (let no : true ≡ false = is in cc)
+
+-- the number of steps at which a byte comes
+pub in_time : (time limit target turns : ℕ) → target ≡ min time limit → target ≤ turns → turns ≤ target → turns < limit → turns ≡ time
+in_time time limit target turns is least most below = omega (arith, is, least, most, below)
+
+module _ {S : Type 0} (sectors : S → Image) (faults : S → ℕ) where
+  pub repeats_to : (A : Type 0) (limit last : ℕ) (end : PlayEnd) (start : PlayState S) (before after : Seat) (p : Playing S) → Repeats {A = A} sectors faults limit (Err end) start before p after → RepeatsTo sectors faults limit last end start before p after
+  repeats_to A limit last (play.Run why) start before after p ends = ends
+  repeats_to A limit last play.Failed start before after p ends = ends
+  repeats_to A limit last play.Left start before after p ends = absurd ends
+  repeats_to A limit last play.NoMemory start before after p ends = absurd ends
+
+  pub short : (start : PlayState S) (before after : Seat) (p q : Playing S) (first : Stands sectors faults start before p after) → PlaysOn sectors faults start (state_of q first.shown) → IsBroken sectors faults start before q after
+  short start before after p q first plays = record { shown = first.shown; plays = plays; left = first.left }

@@ -1,0 +1,4 @@
+use Rattle.cpm_run.proofs.playing.state.Playing.play.Goals as goal
+
+pub loop-end-preserved : goal.loop-end-preserved
+loop-end-preserved g c = (c.go_round.ensures.bound, λ start before first. c.in_default.ensures.so_far start before (c.loop-end.invariant.1 start before first))
