@@ -83,12 +83,12 @@ dialog_is dialog = dialog
 abbrev pub with_machine : Machine → MemoryState → MemoryState
 with_machine m s = record { machine = m; system = s.system }
 
-turn_at : OneStep → (printed : List ℕ) (place : Place) (a b x y : MemoryState) (o p : Option Why) → AlikeSystems image_is dialog_is (Some printed) a.system b.system → Goes_well o → Goes_well p
+turn_at : OneStep → (printed : List ℕ) (place : Place) (a b x y : MemoryState) (o p : Option Why) → AlikeSystems image_is dialog_is (Some (printed, printed)) a.system b.system → Goes_well o → Goes_well p
     → TurnAt image_is no_faults dialog_is place a o x → TurnAt image_is no_faults dialog_is place (with_machine a.machine b) p y → (p ≡ o) × AlikeStates printed x y
 turn_at one_step printed Call a b x y o p alike well fine one two =
     let s = came one.0 one.1 one.2 o x.machine one.4 in
     let t = came two.0 two.1 two.2 p y.machine two.4 in
-    let both = one_known image_is no_faults dialog_is (Some printed) a.system b.system x.system y.system alike (function_of a.machine.cpu.main.c) a.machine.cpu one.1 two.1 a.machine.memory one.2 two.2 one.0 two.0
+    let both = one_known image_is no_faults dialog_is (Some (printed, printed)) a.system b.system x.system y.system alike (function_of a.machine.cpu.main.c) a.machine.cpu one.1 two.1 a.machine.memory one.2 two.2 one.0 two.0
     (came_well one.0 o s.0 well) (came_well two.0 p t.0 fine) one.3 two.3 in (
       t.0 ∙ ap comes_end both.0 ∙ sym s.0,
       record {
@@ -99,7 +99,7 @@ turn_at one_step printed Call a b x y o p alike well fine one two =
 turn_at one_step printed (Entry n) a b x y o p alike well fine one two =
     let s = came one.0 one.1 a.machine.memory o x.machine one.3 in
     let t = came two.0 two.1 a.machine.memory p y.machine two.3 in
-    let both = one_known_entry image_is no_faults dialog_is (Some printed) a.system b.system x.system y.system alike (bios_entry_of n) n a.machine.cpu one.1 two.1 one.0 two.0
+    let both = one_known_entry image_is no_faults dialog_is (Some (printed, printed)) a.system b.system x.system y.system alike (bios_entry_of n) n a.machine.cpu one.1 two.1 one.0 two.0
     (came_well one.0 o s.0 well) (came_well two.0 p t.0 fine) one.2 two.2 in (
       t.0 ∙ ap comes_end both.0 ∙ sym s.0,
       record {
@@ -112,7 +112,7 @@ turn_at one_step printed Program a b x y o p alike well fine one two =
       two.3 ∙ ap step_end (sym both.0) ∙ sym one.3,
       record {
         machine = sym both.1;
-        system = subst (AlikeSystems image_is dialog_is (Some printed) x.system) (sym two.2) (subst (λ s. AlikeSystems image_is dialog_is (Some printed) s b.system) (sym one.2) alike);
+        system = subst (AlikeSystems image_is dialog_is (Some (printed, printed)) x.system) (sym two.2) (subst (λ s. AlikeSystems image_is dialog_is (Some (printed, printed)) s b.system) (sym one.2) alike);
       },
     )
 
@@ -218,7 +218,7 @@ begin_alike file words disk other input one two disks h k =
     let beginning : MemoryState = record { machine = machine k.0 k.1; system = new_system other (dialog_of input (Some []) 0) } in
     let alike : AlikeStates [] start beginning = record {
       machine = ap (λ c. machine c k.1) cpus ∙ ap (machine h.0) memories;
-      system = record { disk = disks; screen = record { dialog = record { input = refl; output = ([], refl, refl); faults = refl }; column = refl }; dma = refl; user = refl; search = refl; within = omega arith };
+      system = record { disk = disks; screen = record { dialog = record { input = refl; output = ([], [], refl, refl, refl); faults = refl }; column = refl }; dma = refl; user = refl; search = refl; within = omega arith };
     } in
     subst (λ (s : MemoryState). AlikeStates [] s two.start) (sym h.3) (subst (λ (s : MemoryState). AlikeStates [] start s) (sym k.3) alike)
 

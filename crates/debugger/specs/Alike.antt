@@ -8,10 +8,10 @@ use Rattle.cpm_run.specs.Undisturbed.{IsUndisturbed}
 use Rattle.debugger.specs.Going.{IsFirstShown, ShowsTurn}
 use Rattle.debugger.specs.Walk.{IsTrue_of_run, MemoryState, Point, Shown, limit_end}
 
--- Two states with the same registers and memory, and with systems that look alike. `printed` is what had been printed when the runs began.
+-- Two states with the same registers and memory, and with systems that look alike. `printed` is what was printed before the runs began, on both consoles.
 pub record AlikeStates (printed : List ℕ) (a b : MemoryState) : Type 0 where
   pub machine : b.machine ≡ a.machine
-  pub system : AlikeSystems (λ image. image) (λ dialog. dialog) (Some printed) a.system b.system
+  pub system : AlikeSystems (λ image. image) (λ dialog. dialog) (Some (printed, printed)) a.system b.system
 
 -- such states, in which the run ends for the same reason or goes on
 pub record AlikePoints (printed : List ℕ) (p q : Point) : Type 0 where

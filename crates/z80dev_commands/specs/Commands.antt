@@ -189,10 +189,10 @@ abbrev pub debug_shape : Shape
 debug_shape = with_rules (codes "debug") (option_rule (codes "disk") (codes "IMG") ∷ option_rule (codes "input") (codes "FILE") ∷ labels_rule
     ∷ option_rule (codes "list") (codes "LST") ∷ path_rule (codes "COM") ∷ words_rule (codes "WORD") ∷ [])
 
--- `play [--disk IMG] [--no-lock] [--steps N] [--raw] [--terminal CODES] [--record FILE] COM [WORD..]`
+-- `play [--disk IMG] [--no-lock] [--steps N] [--raw] [--terminal CODES] [--record FILE] [--replay REC] COM [WORD..]`
 abbrev pub play_shape : Shape
 play_shape = with_rules (codes "play") (option_rule (codes "disk") (codes "IMG") ∷ flag_rule (codes "no-lock") ∷ steps_rule ∷ flag_rule (codes "raw")
-    ∷ option_rule (codes "terminal") (codes "CODES") ∷ option_rule (codes "record") (codes "FILE") ∷ path_rule (codes "COM") ∷ words_rule (codes "WORD") ∷ [])
+    ∷ option_rule (codes "terminal") (codes "CODES") ∷ option_rule (codes "record") (codes "FILE") ∷ option_rule (codes "replay") (codes "REC") ∷ path_rule (codes "COM") ∷ words_rule (codes "WORD") ∷ [])
 
 -- the command `z80dev` without its commands: its help and its version
 abbrev pub bare : App
@@ -353,7 +353,7 @@ IsJobOf met (Debug debugging) = Meets met (codes "debug") (λ rows. FindsIfGiven
     × HasValue (codes "COM") debugging.program rows × FindsAny (codes "WORD") debugging.words.items rows)
 IsJobOf met (Play play) = Meets met (codes "play") (λ rows. FindsIfGiven (codes "IMG") play.disk rows × FindsLock play.lock rows
     × FindsNumber (codes "N") play.steps rows × (is_on (codes "raw") rows ≡ play.raw) × FindsIfGiven (codes "CODES") play.terminal rows
-    × FindsIfGiven (codes "FILE") play.record rows × HasValue (codes "COM") play.program rows × FindsAny (codes "WORD") play.words.items rows)
+    × FindsIfGiven (codes "FILE") play.record rows × FindsIfGiven (codes "REC") play.replay rows × HasValue (codes "COM") play.program rows × FindsAny (codes "WORD") play.words.items rows)
 
 -- The words are parsed without an error, and the job is that of the command that they name, with the values that the parse found.
 abbrev pub IsJob : List Text → Job → Type 0

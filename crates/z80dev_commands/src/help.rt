@@ -97,15 +97,14 @@ main.asm:2:8: error: `LOP` is not defined [Undefined]
 The place is the path, the line and the column, which counts bytes from 1. The
 name in brackets is the one that `z80dev build` prints. If there is no error,
 explain prints the warnings: about jumps, about labels and externals that are
-not used, and about macro calls with too many or too few arguments. It prints
-at most 100 errors or warnings, and then how many more there are. It writes no
-file. `z80dev build --help` explains --define and --with.
+not used, about names that are in PUBLIC or EXTRN twice, and about macro calls
+with too many or too few arguments. It prints at most 100 errors or warnings,
+and then how many more there are. It writes no file. `z80dev build --help`
+explains --define and --with.
 
-Most errors in a macro have the line of the macro's body, as it is with the
-arguments of the call, and a note for each call that led there. Errors in its
-characters, numbers, strings, blocks and conditions, and of jumps that do not
-reach, have the line of the call. Some errors hide others, so run explain again
-when these are mended.
+Errors in a macro have the line of the macro's body, as it is with the arguments
+of the call, and a note for each call that led there. Some errors hide others,
+so run explain again when these are mended.
 
 With --jumps, it also prints a note for each jump that could be short but is
 long: how far its target is, how many bytes too many, and which other long jumps
@@ -296,25 +295,29 @@ waits for a command, such as step, regs, back, help or quit.";
 
 pub(crate) const PLAY: &str =
     r"Reads IMG and COM and runs the program, which gets each byte of standard input
-as it comes. What the program prints is shown at once. Start it at a terminal by
-the script z80dev-play, with the same words: the script puts the terminal into
-the mode in which each key comes as it is pressed (--raw), and puts it back at
-the end. Without the script, input comes by lines.
+as it comes. Start it at a terminal by the script z80dev-play, with the same
+words: the script puts the terminal into the mode in which each key comes as it
+is pressed (--raw), and puts it back at the end. Without the script, input comes
+by lines, and an LF is the key RETURN. What the program prints is shown when it
+asks for input, or 2,000,000 steps later at the latest.
 
 At a terminal, press Ctrl-\ twice to leave. Ctrl-C is the program's own.
 
 A call that takes a byte or a line waits for it; function 10 shows the line as
 it is typed. A call that asks whether a byte is there is answered by what has
-come. An LF that comes is a CR. The screen codes of the Kaypro, the Osborne and
-the ADM-3A (adm3a) or of the VT52 (vt52) become those of today's terminals; with
-none, bytes are shown as they are.
+come. The screen codes of the Kaypro, the Osborne and the ADM-3A (adm3a) or of
+the VT52 (vt52) become those of today's terminals; with none, bytes are shown as
+they are.
 
 Writes IMG at the end as `z80dev run` does, also if you leave. With --record, it
 writes FILE, a line for each byte that came: the number of steps before it, and
-the byte in hexadecimal.
+the byte in hexadecimal; and at the end the number of steps. With --replay, it
+plays the session of such a file REC again, and standard input is not read: with
+the same program, words and image, each step is the same as then.
 
 The status is that of run: 0 if the program finished or you left, and 1 with a
-line `stopped: WHY at PC` if it was stopped.
+line `stopped: WHY at PC` if it was stopped, or a line `error: ..` if REC is not
+the record of a session.
 
 Example: z80dev-play --disk game.img game.com
 runs game.com at the keyboard.";
@@ -353,6 +356,7 @@ is too long to be loaded; then standard error has a line `stopped: WHY at PPPP`.
 If a file is at fault, there is a line `error: ..` instead: the status is 1 if
 IMG is not an image of a disk, if SYM is not a file of labels, or if TRC or PRF
 is a file that is read or they are the same, and 3 if a file cannot be read or
-written or IMG cannot be locked.
+written or IMG cannot be locked. If TRC or PRF cannot be written, the line comes
+after the others.
 
 Example: z80dev run --disk a.img game.com FILE.TXT";

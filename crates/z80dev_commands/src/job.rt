@@ -307,6 +307,8 @@ pub struct Play<'a> {
     pub terminal: Option<&'a str>,
     /// The path of the file to write with each byte that came, if one is given.
     pub record: Option<&'a str>,
+    /// The path of the file of an earlier session, if it is to be played again.
+    pub replay: Option<&'a str>,
     /// The path of the .COM file.
     pub program: &'a str,
     /// The words of the program's command line.

@@ -450,6 +450,7 @@ fn play<'a>(alloc: Global, found: &ArgMatches<'a>) -> Result<Job<'a>, AllocError
         raw: flag(found, "raw"),
         terminal: text_if_given(found, "CODES"),
         record: text_if_given(found, "FILE"),
+        replay: text_if_given(found, "REC"),
         program: text(found, "COM"),
         words: texts_if_given(alloc, found, "WORD")?,
     }))

@@ -427,6 +427,12 @@ fn play<'a>(alloc: Global) -> Result<Command<'a>, AllocError>
         "FILE",
         "Also writes each byte that came, with the number of steps before it",
     ))?
+    .arg(option(
+        alloc,
+        "replay",
+        "REC",
+        "Plays a recorded session again: what came then comes at the same steps",
+    ))?
     .arg(path(alloc, "COM", "The path of the program"))?
     .arg(words(alloc, "WORD", "The words of its command line"))
 }

@@ -1,5 +1,5 @@
 -- How the command `play` ends.
-use Rattle.std.specs.Prelude.{◌≡◌, ◌⊎◌, ℕ, Bool, ◌||◌, false, List, [], Option, None, Some, Result, Ok, Err, codes, ◌++◌, if◌then◌else◌, is_some, map, unwrap_or}
+use Rattle.std.specs.Prelude.{◌≡◌, ◌⊎◌, ℕ, Bool, ◌||◌, false, List, [], Option, None, Some, Result, Ok, Err, codes, ◌++◌, if◌then◌else◌, is_some, map, string_bytes, unwrap_or}
 use Rattle.std.specs.Borrow.{Bor}
 use Rattle.std.specs.Option.{option_map_or}
 use Rattle.std.specs.Str.{bytes_eq}
@@ -21,9 +21,13 @@ use Rattle.z80dev_jobs.specs.Running.{ClaimsDisk, EndsBefore, IsDiskNotClaimed, 
 use Rattle.z80dev_jobs.specs.Values.{either}
 use Rattle.z80dev_jobs.specs.World.{World}
 use Rattle.z80dev_jobs.specs.declared.running.Inputs.{Inputs}
-use Rattle.z80dev_run.specs.Desk.{known_shown}
+use Rattle.cpm_run.specs.Seat.{Seat}
+use Rattle.z80dev_run.specs.Desk.{seat_of}
+use Rattle.z80dev_run.specs.declared.desk.Keys.{Keys}
+use Rattle.z80dev_run.specs.declared.desk.Keys.TheVariants.{Raw, Lines}
+use Rattle.z80dev_run.specs.declared.recorded.Recorded.{Recorded}
 use Rattle.z80dev_run.specs.Ending.{Concludes}
-use Rattle.z80dev_run.specs.Program.{IsPlayedRan, record_text}
+use Rattle.z80dev_run.specs.Program.{IsPlayedRan, IsRecord, IsReplayedRan, record_text}
 
 -- ---- the words
 
@@ -56,6 +60,10 @@ bad_record p (Some path) = if is_read_by p path.now then Some (over_text path.no
 abbrev pub bad_in_play : Play → Option (List ℕ)
 bad_in_play p = either (bad_terminal p.terminal) (bad_record p p.record)
 
+-- how keys come
+abbrev pub keys_of : Bool → Keys
+keys_of raw = if raw then Raw else Lines
+
 -- how many steps a program may make if the command names no number
 abbrev pub most_steps : ℕ
 most_steps = 18446744073709551615
@@ -68,19 +76,37 @@ ReadsPlayed p old new (Ok inputs) = ClaimsDisk p.disk p.lock old new inputs.imag
 ReadsPlayed p old new (Err e) = IsDiskNotClaimed p.disk old new e
     ⊎ ((mid : Folder) × (image : List ℕ) × (lines : Option (List ℕ)) × ClaimsDisk p.disk p.lock old mid image lines × IsNotRead mid new p.program.now e)
 
--- The bytes that came are written, if there is a path for them.
-abbrev pub Records : Option (Bor (List ℕ)) → List Arrival → Folder → Folder → Result Unit End → Type 0
-Records None arrivals old new (Ok done) = new ≡ old
-Records None arrivals old new (Err e) = ⊥
-Records (Some path) arrivals old new (Ok done) = Stores old new (path.now, record_text arrivals) (Ok done)
-Records (Some path) arrivals old new (Err (end.File at last)) = (at.now ≡ path.now) × (last.now ≡ []) × (failed : WriteFailed) × Stores old new (path.now, record_text arrivals) (Err failed)
-Records (Some path) arrivals old new (Err e) = (e ≡ end.NoMemory) × (new ≡ old)
+-- a file that is not the record of a session
+abbrev pub IsNoRecord : List ℕ → End → Type 0
+IsNoRecord path (end.Refused said) = string_bytes said ≡ codes "BadRecord(" ++ path ++ codes ")"
+IsNoRecord path end.NoMemory = Unit {0}
+IsNoRecord path _ = ⊥
 
--- The image that a session leaves is kept; then the bytes that came are written.
-abbrev pub KeepsPlayed : Play → List ℕ → List ℕ → List Arrival → Folder → Folder → Result Unit End → Type 0
-KeepsPlayed p bytes image arrivals old new (Ok done) = (mid : Folder) × IsKept p.disk bytes image old mid (Ok done) × Records p.record arrivals mid new (Ok done)
-KeepsPlayed p bytes image arrivals old new (Err e) = IsKept p.disk bytes image old new (Err e)
-    ⊎ ((mid : Folder) × (done : Unit {0}) × IsKept p.disk bytes image old mid (Ok done) × Records p.record arrivals mid new (Err e))
+-- The record of an earlier session is read, if there is a path for it. A file that is refused may be one: this does not say that it is not.
+abbrev pub ReadsRecord : Option (Bor (List ℕ)) → Folder → Folder → Result (Option Recorded) End → Type 0
+ReadsRecord None old new (Ok found) = (found ≡ None) × (new ≡ old)
+ReadsRecord None old new (Err e) = ⊥
+ReadsRecord (Some path) old new (Ok found) = (new ≡ old) × (text : List ℕ) × IsRead old path.now text × (recorded : Recorded) × (found ≡ Some recorded) × IsRecord text recorded.arrivals.items recorded.last
+ReadsRecord (Some path) old new (Err e) = IsNotRead old new path.now e ⊎ ((new ≡ old) × IsNoRecord path.now e)
+
+-- The image, the program and the record are read.
+abbrev pub ReadsSession : Play → Folder → Folder → Result (Inputs × Option Recorded) End → Type 0
+ReadsSession p old new (Ok (inputs, recorded)) = (mid : Folder) × ReadsPlayed p old mid (Ok inputs) × ReadsRecord p.replay mid new (Ok recorded)
+ReadsSession p old new (Err e) = ReadsPlayed p old new (Err e) ⊎ ((mid : Folder) × (inputs : Inputs) × ReadsPlayed p old mid (Ok inputs) × ReadsRecord p.replay mid new (Err e))
+
+-- The session is written, if there is a path for it.
+abbrev pub Records : Option (Bor (List ℕ)) → List Arrival → ℕ → Folder → Folder → Result Unit End → Type 0
+Records None arrivals turns old new (Ok done) = new ≡ old
+Records None arrivals turns old new (Err e) = ⊥
+Records (Some path) arrivals turns old new (Ok done) = Stores old new (path.now, record_text arrivals turns) (Ok done)
+Records (Some path) arrivals turns old new (Err (end.File at last)) = (at.now ≡ path.now) × (last.now ≡ []) × (failed : WriteFailed) × Stores old new (path.now, record_text arrivals turns) (Err failed)
+Records (Some path) arrivals turns old new (Err e) = (e ≡ end.NoMemory) × (new ≡ old)
+
+-- The image that a session leaves is kept; then the session is written.
+abbrev pub KeepsPlayed : Play → List ℕ → List ℕ → List Arrival → ℕ → Folder → Folder → Result Unit End → Type 0
+KeepsPlayed p bytes image arrivals turns old new (Ok done) = (mid : Folder) × IsKept p.disk bytes image old mid (Ok done) × Records p.record arrivals turns mid new (Ok done)
+KeepsPlayed p bytes image arrivals turns old new (Err e) = IsKept p.disk bytes image old new (Err e)
+    ⊎ ((mid : Folder) × (done : Unit {0}) × IsKept p.disk bytes image old mid (Ok done) × Records p.record arrivals turns mid new (Err e))
 
 -- ---- the end
 
@@ -96,23 +122,32 @@ abbrev pub ReportsPlay : Option (List ℕ) → Result Unit End → PlayEnd → �
 ReportsPlay lines (Ok done) end pc old new status = EndsSession lines end pc old new status
 ReportsPlay lines (Err e) end pc old new status = (status ≡ end_status e) × Tells e old new
 
-abbrev pub EndsPlay : Play → Inputs → PlayEnd → ℕ → List ℕ → List Arrival → Folder → Folder → Stream → Stream → ℕ → Type 0
-EndsPlay p inputs end pc image arrivals old new before after status =
-    (kept : Result Unit End) × KeepsPlayed p inputs.image.items image arrivals old new kept × ReportsPlay (lines_in inputs) kept end pc before after status
+abbrev pub EndsPlay : Play → Inputs → PlayEnd → ℕ → ℕ → List ℕ → List Arrival → Folder → Folder → Stream → Stream → ℕ → Type 0
+EndsPlay p inputs end turns pc image arrivals old new before after status =
+    (kept : Result Unit End) × KeepsPlayed p inputs.image.items image arrivals turns old new kept × ReportsPlay (lines_in inputs) kept end pc before after status
 
--- The program is run with its words on the disk for somebody at standard input and standard output; then the session ends. If what was shown is
--- known before, it is known afterwards too: then the codes are nobody's, and the output has grown by what was shown.
-abbrev pub Plays : Play → Inputs → Folder → World → World → ℕ → Type 0
-Plays p inputs claimed old new status =
-    (end : PlayEnd) × (turns pc : ℕ) × (image : List ℕ) × (arrivals : List Arrival) × (whose : Codes)
-    × IsPlayedRan inputs.program.items (map (λ word. word.now) p.words.items) inputs.image.items (unwrap_or p.steps most_steps) (known_shown (codes_of p.terminal) old.output.bytes)
-    end turns pc image arrivals (known_shown whose new.output.bytes)
-    × EndsPlay p inputs end pc image arrivals claimed new.folder old.errors new.errors status
+-- A program is played; or it is played again, if there is a record.
+abbrev pub IsSession : List ℕ → List (List ℕ) → List ℕ → ℕ → Option Recorded → Seat → PlayEnd → ℕ → ℕ → List ℕ → List Arrival → Seat → Type 0
+IsSession file words image steps None before end turns pc left arrivals after = IsPlayedRan file words image steps before end turns pc left arrivals after
+IsSession file words image steps (Some recorded) before end turns pc left arrivals after = IsReplayedRan file words image steps recorded.arrivals.items recorded.last before end turns pc left arrivals after
+
+-- who sits at the streams of a world at the beginning
+abbrev pub seated : Play → World → Seat
+seated p world = seat_of (codes_of p.terminal) (keys_of p.raw) false world.input.left world.output.bytes
+
+-- The program is run with its words on the disk for somebody at standard input and standard output; then the session ends. What is known of the
+-- streams before is known afterwards: of output if no codes are changed on the way, and of input.
+abbrev pub Plays : Play → Inputs → Option Recorded → Folder → World → World → ℕ → Type 0
+Plays p inputs recorded claimed old new status =
+    (end : PlayEnd) × (turns pc : ℕ) × (image : List ℕ) × (arrivals : List Arrival) × (whose : Codes) × (keys : Keys) × (left : Bool)
+    × IsSession inputs.program.items (map (λ word. word.now) p.words.items) inputs.image.items (unwrap_or p.steps most_steps) recorded (seated p old)
+    end turns pc image arrivals (seat_of whose keys left new.input.left new.output.bytes)
+    × EndsPlay p inputs end turns pc image arrivals claimed new.folder old.errors new.errors status
 
 -- `play`: the files are read, and the program is played. Standard input is read only while it is.
 abbrev pub PlayEndsWith : Play → World → World → ℕ → Type 0
 PlayEndsWith p old new status =
-    ((e : End) × ReadsPlayed p old.folder new.folder (Err e) × (new.input ≡ old.input) × EndsBefore e old new status)
-    ⊎ ((inputs : Inputs) × (claimed : Folder) × ReadsPlayed p old.folder claimed (Ok inputs)
+    ((e : End) × ReadsSession p old.folder new.folder (Err e) × (new.input ≡ old.input) × EndsBefore e old new status)
+    ⊎ ((inputs : Inputs) × (recorded : Option Recorded) × (claimed : Folder) × ReadsSession p old.folder claimed (Ok (inputs, recorded))
     × (((e : End) × IsNoDisk inputs.image.items e × (new.folder ≡ claimed) × (new.input ≡ old.input) × EndsBefore e old new status)
-    ⊎ Plays p inputs claimed old new status))
+    ⊎ Plays p inputs recorded claimed old new status))

@@ -1,9 +1,10 @@
 //! The command `play`.
 
-ghost use Rattle.std.specs.Prelude.{◌≡◌, ◌≤◌, IfOk, Vec, false, map, option_map, string_bytes, unwrap_or};
+ghost use Rattle.std.specs.Prelude.{◌≡◌, ◌≤◌, ℕ, IfOk, List, Vec, false, map, option_map, string_bytes, unwrap_or};
 ghost use Rattle.std.specs.List.{concat};
 ghost use Rattle.z80dev_jobs.specs.Command.{Judging};
-ghost use Rattle.z80dev_jobs.specs.Playing.{EndsPlay, EndsSession, KeepsPlayed, PlayEndsWith, ReadsPlayed, Records, ReportsPlay, bad_in_play, bad_record, bad_terminal, codes_named, codes_of};
+ghost use Rattle.z80dev_jobs.specs.Playing.{EndsPlay, EndsSession, IsSession, KeepsPlayed, PlayEndsWith, ReadsPlayed, ReadsRecord, ReadsSession, Records, ReportsPlay, bad_in_play, bad_record, bad_terminal, codes_named, codes_of, keys_of};
+ghost use Rattle.z80dev_run.specs.Program.{IsReadyToRun};
 ghost use Rattle.z80dev_jobs.specs.Private.Images.{IsFreeOf};
 ghost use Rattle.z80dev_jobs.specs.Reading.{reader_of};
 ghost use Rattle.z80dev_jobs.specs.World.{world_of};
@@ -18,7 +19,10 @@ use screen_codes::Codes;
 use std::alloc::{AllocError, Global};
 use z80dev::{DONE, End, Files, Input, Sink, report};
 use z80dev_commands::Play;
-use z80dev_run::{Arrival, Desk, Keys, PlayEnd, PlayedRan, conclude, record_file};
+use z80dev_run::{
+    Arrival, Desk, Keys, PlayEnd, PlayedRan, Ready, Recorded, Station, conclude, read_record,
+    record_file,
+};
 
 /// Whose screen codes a word of `--terminal` names.
 fn codes_named(word: &str) -> Option<Codes>
@@ -105,19 +109,68 @@ fn played_of<'a, F: Files>(alloc: Global, job: &Play<'a>, files: &mut F) -> Resu
     })
 }
 
-/// Writes the bytes that came, if there is a path for them.
+/// Reads the record of an earlier session, if there is a path for one.
+fn recorded_of<'a, F: Files>(
+    alloc: Global,
+    path: Option<&'a str>,
+    files: &mut F,
+) -> Result<Option<Recorded>, End<'a>>
+    ensures { ReadsRecord path.entry (F.folder files.old) (F.folder files.new) result }
+{
+    let Some(path) = path else {
+        return Ok(None);
+    };
+    let text = read(alloc, path, files)?;
+    match read_record(alloc, &text)? {
+        Some(recorded) => Ok(Some(recorded)),
+        None => Err(End::Refused(format!(in alloc; "BadRecord({path})")?)),
+    }
+}
+
+/// Claims the image and reads the program and the record.
+fn session_of<'a, F: Files>(
+    alloc: Global,
+    job: &Play<'a>,
+    files: &mut F,
+) -> Result<(Inputs, Option<Recorded>), End<'a>>
+    ensures { ReadsSession job.now (F.folder files.old) (F.folder files.new) result }
+{
+    let inputs = played_of(alloc, job, files)?;
+    let recorded = recorded_of(alloc, job.replay, files)?;
+    Ok((inputs, recorded))
+}
+
+/// Plays a program, or plays it again if there is a record.
+fn run_session<K: Station>(
+    alloc: Global,
+    ready: Ready<'_, '_>,
+    recorded: &Option<Recorded>,
+    station: &mut K,
+    steps: u64,
+) -> PlayedRan
+    ensures { (program : List ℕ) (words : List (List ℕ)) (image input : List ℕ) → IsReadyToRun program words image input ready.entry
+        → IsSession program words image steps recorded.now (K.seat station.old) result.end result.turns result.pc (concat result.image) result.arrivals.items (K.seat station.new) }
+{
+    match recorded {
+        Some(recorded) => ready.replay(alloc, recorded, station, steps),
+        None => ready.play(alloc, station, steps),
+    }
+}
+
+/// Writes a session, if there is a path for it.
 fn record<'a, F: Files>(
     alloc: Global,
     path: Option<&'a str>,
     arrivals: &[Arrival],
+    turns: u64,
     files: &mut F,
 ) -> Result<(), End<'a>>
-    ensures { Records path.entry arrivals.now (F.folder files.old) (F.folder files.new) result }
+    ensures { Records path.entry arrivals.now turns (F.folder files.old) (F.folder files.new) result }
 {
     let Some(path) = path else {
         return Ok(());
     };
-    let Ok(text) = record_file(alloc, arrivals) else {
+    let Ok(text) = record_file(alloc, arrivals, turns) else {
         return Err(End::NoMemory);
     };
     match files.write(path, &text) {
@@ -126,7 +179,7 @@ fn record<'a, F: Files>(
     }
 }
 
-/// Keeps the image that a session leaves, then writes the bytes that came.
+/// Keeps the image that a session leaves, then writes the session.
 fn keep_played<'a, F: Files>(
     alloc: Global,
     job: &Play<'a>,
@@ -135,10 +188,10 @@ fn keep_played<'a, F: Files>(
     files: &mut F,
 ) -> Result<(), End<'a>>
     requires free { IsFreeOf job.now.disk (F.folder files.old) }
-    ensures { KeepsPlayed job.now bytes.now (concat played.now.image) played.now.arrivals.items (F.folder files.old) (F.folder files.new) result }
+    ensures { KeepsPlayed job.now bytes.now (concat played.now.image) played.now.arrivals.items played.now.turns (F.folder files.old) (F.folder files.new) result }
 {
     keep_disk(job.disk, bytes, played.image_bytes(), files)?;
-    record(alloc, job.record, &played.arrivals, files)
+    record(alloc, job.record, &played.arrivals, played.turns, files)
 }
 
 /// Reports why a session ended, and gives the exit status.
@@ -188,15 +241,17 @@ fn end_play<F: Files, E: Sink>(
     errors: &mut E,
 ) -> u8
     requires free { IsFreeOf job.now.disk (F.folder files.old) }
-    ensures { EndsPlay job.now inputs.now played.now.end played.now.pc (concat played.now.image) played.now.arrivals.items (F.folder files.old) (F.folder files.new) (E.stream errors.old) (E.stream errors.new) result }
+    ensures { EndsPlay job.now inputs.now played.now.end played.now.turns played.now.pc (concat played.now.image) played.now.arrivals.items (F.folder files.old) (F.folder files.new) (E.stream errors.old) (E.stream errors.new) result }
 {
     let kept = keep_played(alloc, job, &inputs.image, played, files);
     report_play(alloc, &inputs.warnings, kept, played.end, played.pc, errors)
 }
 
 /// How keys come.
-fn keys_of(job: &Play<'_>) -> Keys {
-    if job.raw { Keys::Raw } else { Keys::Lines }
+fn keys_of(raw: bool) -> Keys
+    ensures { result ≡ keys_of raw }
+{
+    if raw { Keys::Raw } else { Keys::Lines }
 }
 
 /// Runs a program for somebody at standard input and standard output, and gives the exit status with what the command worked on.
@@ -210,8 +265,8 @@ fn play<F: Files, I: Input, W: Sink + Drop, E: Sink>(
     ensures ends { PlayEndsWith job.now (world_of (F.folder host.files) (reader_of (I.remaining host.input) (I.failed host.input) (I.reads host.input) (I.interruptions host.input)) (W.stream host.output) (E.stream host.errors)) (world_of (F.folder result.host.files) (reader_of (I.remaining result.host.input) (I.failed result.host.input) (I.reads result.host.input) (I.interruptions result.host.input)) (W.stream result.host.output) (E.stream result.host.errors)) result.status }
     ensures reads { I.reads result.host.input ≤ MOST_LISTENS }
 {
-    let inputs = match played_of(alloc, job, &mut host.files) {
-        Ok(inputs) => inputs,
+    let (inputs, recorded) = match session_of(alloc, job, &mut host.files) {
+        Ok(read) => read,
         Err(end) => {
             let status = report(&end, &mut host.errors);
             return Ended { status, host };
@@ -231,8 +286,9 @@ fn play<F: Files, I: Input, W: Sink + Drop, E: Sink>(
         mut errors,
         is_terminal,
     } = host;
-    let mut desk = Desk::new(alloc, input, output, codes_of(job.terminal), keys_of(job));
-    let played = ready.play(alloc, &mut desk, job.steps.unwrap_or(u64::MAX));
+    let mut desk = Desk::new(alloc, input, output, codes_of(job.terminal), keys_of(job.raw));
+    let steps = job.steps.unwrap_or(u64::MAX);
+    let played = run_session(alloc, ready, &recorded, &mut desk, steps);
     let status = end_play(alloc, job, &inputs, &played, &mut files, &mut errors);
     let (input, output) = desk.into_streams();
     let host = Host {

@@ -7,7 +7,8 @@ use Rattle.cpm_console.specs.Dialog.{Dialog, dialog_of}
 use Rattle.cpm_disk.specs.Calls.{Mounted}
 use Rattle.cpm_disk.specs.Image.{Image}
 use Rattle.cpm_run.specs.declared.tracing.Left.{Left}
-use Rattle.cpm_run.specs.Play.{IsPlayed}
+use Rattle.cpm_run.specs.Play.{IsInOrder, IsPlayed, IsReplayed}
+use Rattle.cpm_run.specs.Seat.{Seat}
 use Rattle.cpm_run.specs.Run.{IsRun}
 use Rattle.cpm_run.specs.declared.arriving.Arrival.{Arrival}
 use Rattle.cpm_run.specs.declared.arriving.PlayEnd.{PlayEnd}
@@ -47,15 +48,30 @@ IsDebuggedRun file words image input labels listing before after =
     (disk : Mounted Image) × IsMounted image (Ok disk) × DebugsTo file words disk (typed input) (record { labels = labels; size = length file }) listing before after
 
 -- The program was played with its words on the disk with this image, at a keyboard and a screen: why the session ended, after how many steps and
--- with which PC, the image of the disk then, and the bytes that came. What was shown is known before and after.
-abbrev pub IsPlayedRan : List ℕ → List (List ℕ) → List ℕ → ℕ → Option (List ℕ) → PlayEnd → ℕ → ℕ → List ℕ → List Arrival → Option (List ℕ) → Type 0
+-- with which PC, the image of the disk then, and the bytes that came.
+abbrev pub IsPlayedRan : List ℕ → List (List ℕ) → List ℕ → ℕ → Seat → PlayEnd → ℕ → ℕ → List ℕ → List Arrival → Seat → Type 0
 IsPlayedRan file words image steps before end turns pc left arrivals after =
     (disk : Mounted Image) × (then : Mounted Image) × IsMounted image (Ok disk)
     × IsPlayed (λ sectors. sectors) (λ sectors. 0) file words disk steps before end turns pc then arrivals after × (left ≡ concat then.device)
+
+-- The same again, with the bytes of a record and its last number of steps.
+abbrev pub IsReplayedRan : List ℕ → List (List ℕ) → List ℕ → ℕ → List Arrival → ℕ → Seat → PlayEnd → ℕ → ℕ → List ℕ → List Arrival → Seat → Type 0
+IsReplayedRan file words image steps recorded last before end turns pc left arrivals after =
+    (disk : Mounted Image) × (then : Mounted Image) × IsMounted image (Ok disk)
+    × IsReplayed (λ sectors. sectors) (λ sectors. 0) file words disk steps recorded last before end turns pc then arrivals after × (left ≡ concat then.device)
 
 -- a line for each byte that came: the number of steps before it, and the byte in hexadecimal
 abbrev pub arrival_line : Arrival → List ℕ
 arrival_line arrival = decimal arrival.turn ++ codes " " ++ encode_upper (arrival.byte ∷ []) ++ codes "\n"
 
-abbrev pub record_text : List Arrival → List ℕ
-record_text arrivals = flat_map arrival_line arrivals
+-- the line of the end: the number of steps, and the word END
+abbrev pub last_line : ℕ → List ℕ
+last_line turns = decimal turns ++ codes " END\n"
+
+abbrev pub record_text : List Arrival → ℕ → List ℕ
+record_text arrivals turns = flat_map arrival_line arrivals ++ last_line turns
+
+-- This is the text of a record, and its numbers of steps do not go down.
+pub record IsRecord (text : List ℕ) (arrivals : List Arrival) (last : ℕ) : Type 0 where
+  pub is : text ≡ record_text arrivals last
+  pub order : IsInOrder arrivals last

@@ -1,7 +1,8 @@
 //! Somebody at standard input and standard output.
 
-ghost use Rattle.std.specs.Prelude.{◌≡◌, ◌≤◌, EachIndex, false, slice_index};
-ghost use Rattle.z80dev_run.specs.Desk.{has_left, line_key};
+ghost use Rattle.std.specs.Prelude.{◌≡◌, ◌≤◌, EachIndex, ◌||◌, false, slice_index};
+ghost use Rattle.cpm_run.specs.Seat.{Listens};
+ghost use Rattle.z80dev_run.specs.Desk.{as_keys, has_left, heard, is_leave, line_key, seat_of};
 ghost use Rattle.z80dev_run.specs.declared.desk.TheConstants.{MOST_LISTENS};
 
 use cpm_run::{Came, Patience, Station, StationFault};
@@ -19,6 +20,10 @@ const BUSY: u64 = 2_000_000;
 
 /// The same if it has not. Then nearly all the time is spent in waiting, so that a program that only looks for a key leaves the processor free.
 const IDLE: u64 = 200_000;
+
+/// By lines, a program that shows something between any two looks is given what has come after this number of steps. It may have to wait for a
+/// line then, so this is half a second and more.
+const LONGEST_BUSY: u64 = 100_000_000;
 
 /// The key Ctrl-\. A person leaves by pressing it twice.
 const LEAVE: u8 = 0x1C;
@@ -49,12 +54,16 @@ pub struct Desk<I: Input, S: Sink> {
     reads: u64,
     /// Whether it can be read again.
     is_open: bool,
-    /// How many steps were made before the last read.
+    /// How many steps were made before the last look.
     looked: u64,
+    /// How many steps were made before the last read.
+    heard: u64,
     /// Whether something was shown, or came, since the last read.
     is_busy: bool,
     /// Whether the last key is the first half of leaving.
     is_leaving: bool,
+    /// Whether the person has left.
+    left: bool,
 }
 
 impl<I: Input, S: Sink> Model for Desk<I, S> {
@@ -64,7 +73,7 @@ impl<I: Input, S: Sink> Model for Desk<I, S> {
 
     ghost Value = { DeskState I S };
 
-    ghost view = { λ d. record { input = d.input; output = d.output; screen = d.screen } };
+    ghost view = { λ d. record { input = d.input; output = d.output; screen = d.screen; keys = d.keys; is_leaving = d.is_leaving; left = d.left } };
 
     ghost invariant = { λ d. (d.is_open ≡ true → I.failed d.input ≡ false) × (I.reads d.input ≡ d.reads) × (d.reads ≤ MOST_LISTENS) };
 }
@@ -107,6 +116,8 @@ impl<I: Input, S: Sink> Desk<I, S> {
         ensures input { result.input ≡ input }
         ensures output { result.output ≡ output }
         ensures codes { result.screen.codes ≡ codes }
+        ensures keys { result.keys ≡ keys }
+        ensures left { result.left ≡ false }
     {
         Desk {
             input,
@@ -117,8 +128,10 @@ impl<I: Input, S: Sink> Desk<I, S> {
             reads: 0,
             is_open: true,
             looked: 0,
+            heard: 0,
             is_busy: true,
             is_leaving: false,
+            left: false,
         }
     }
 
@@ -132,14 +145,15 @@ impl<I: Input, S: Sink> Desk<I, S> {
     }
 
     /// Whether the keyboard is to be looked at now. A look may last until a line comes if keys come by lines, so then the program has to be
-    /// idle.
+    /// idle, or to have been busy for long.
     fn is_due(&mut self, turns: u64, patience: Patience) -> bool
         ensures { self.new ≡ self.old }
     {
         if patience == Patience::Wait {
             return true;
         }
-        if self.keys == Keys::Lines && self.is_busy {
+        let since = turns.saturating_sub(self.heard);
+        if self.keys == Keys::Lines && self.is_busy && since < LONGEST_BUSY {
             self.looked = turns;
             self.is_busy = false;
             return false;
@@ -148,15 +162,22 @@ impl<I: Input, S: Sink> Desk<I, S> {
         turns.saturating_sub(self.looked) >= pause
     }
 
-    /// What bytes that were read mean.
+    /// What bytes that were read mean. Those of lines become keys.
     fn hear(&mut self, bytes: &mut [u8]) -> Came
-        ensures output { self.new ≡ self.old }
+        ensures bytes { bytes.new ≡ as_keys self.old.keys bytes.old }
+        ensures came { result ≡ heard self.old.keys self.old.is_leaving bytes.old }
+        ensures left { self.new.left ≡ (self.old.left || is_leave result) }
+        ensures input { self.new.input ≡ self.old.input }
+        ensures output { self.new.output ≡ self.old.output }
+        ensures screen { self.new.screen ≡ self.old.screen }
+        ensures keys { self.new.keys ≡ self.old.keys }
     {
         if self.keys == Keys::Lines {
             make_returns(bytes);
             return Came::Bytes(bytes.len());
         }
         if has_left(self.is_leaving, bytes) {
+            self.left = true;
             return Came::Leave;
         }
         self.is_leaving = bytes.last() == Some(&LEAVE);
@@ -165,8 +186,7 @@ impl<I: Input, S: Sink> Desk<I, S> {
 
     /// Reads standard input once.
     fn look(&mut self, buffer: &mut [u8]) -> Result<Came, StationFault>
-        ensures output { self.new.output ≡ self.old.output }
-        ensures screen { self.new.screen ≡ self.old.screen }
+        ensures { Listens (seat_of self.old.screen.codes self.old.keys self.old.left (I.remaining self.old.input) (S.stream self.old.output).bytes) (seat_of self.new.screen.codes self.new.keys self.new.left (I.remaining self.new.input) (S.stream self.new.output).bytes) result buffer.new }
     {
         if !self.is_open || self.reads == MOST_LISTENS {
             return Ok(Came::End);
@@ -192,9 +212,9 @@ impl<I: Input, S: Sink> Desk<I, S> {
 }
 
 impl<I: Input, S: Sink> Station for Desk<I, S> {
-    ghost use Rattle.z80dev_run.specs.Desk.{known_shown};
+    ghost use Rattle.z80dev_run.specs.Desk.{seat_of};
 
-    ghost shown = { λ d. known_shown d.screen.codes (S.stream d.output).bytes };
+    ghost seat = { λ d. seat_of d.screen.codes d.keys d.left (I.remaining d.input) (S.stream d.output).bytes };
 
     fn listen(
         &mut self,
@@ -206,6 +226,7 @@ impl<I: Input, S: Sink> Station for Desk<I, S> {
             return Ok(Came::Bytes(0));
         }
         self.looked = turns;
+        self.heard = turns;
         self.is_busy = false;
         self.look(buffer)
     }

@@ -1,13 +1,14 @@
 //! Runs a program for somebody at a keyboard.
 
-ghost use Rattle.std.specs.Prelude.{◌≡◌, ◌++◌, ℕ, IfOk, List, OnOk};
+ghost use Rattle.std.specs.Prelude.{◌≡◌, ℕ, List};
 ghost use Rattle.std.specs.List.{concat};
-ghost use Rattle.z80dev_run.specs.Program.{IsPlayedRan, IsReadyToRun, arrival_line, record_text};
+ghost use Rattle.z80dev_run.specs.Program.{IsPlayedRan, IsReadyToRun, IsReplayedRan};
 
+use crate::recorded::Recorded;
 use crate::running::Ready;
 use cpm_image::MemoryImage;
 use cpm_run::{Arrival, PlayEnd, Station};
-use std::alloc::{AllocError, Global};
+use std::alloc::Global;
 
 /// How a session ended, what it leaves, and the bytes that came.
 #[derive(Drop)]
@@ -37,7 +38,7 @@ impl Ready<'_, '_> {
     /// Runs the program for somebody at a keyboard, for at most `steps` steps. What is typed before the start does not count.
     pub fn play<K: Station>(self, alloc: Global, station: &mut K, steps: u64) -> PlayedRan
         ensures { (program : List ℕ) (words : List (List ℕ)) (image input : List ℕ) → IsReadyToRun program words image input self.entry
-            → IsPlayedRan program words image steps (K.shown station.old) result.end result.turns result.pc (concat result.image) result.arrivals.items (K.shown station.new) }
+            → IsPlayedRan program words image steps (K.seat station.old) result.end result.turns result.pc (concat result.image) result.arrivals.items (K.seat station.new) }
     {
         let Ready {
             program,
@@ -54,29 +55,40 @@ impl Ready<'_, '_> {
             arrivals: played.arrivals,
         }
     }
-}
 
-/// Appends the line of a byte that came.
-fn put_arrival(alloc: Global, text: &mut Vec<u8>, arrival: Arrival) -> Result<(), AllocError>
-    ensures { OnOk result (text.new.items ≡ text.old.items ++ arrival_line arrival) }
-{
-    let turn = arrival.turn;
-    let number = format!(in alloc; "{turn}")?;
-    let byte = hex::encode_upper(alloc, &[arrival.byte][..])?;
-    text.extend_from_slice(number.as_bytes())?;
-    text.push(b' ')?;
-    text.extend_from_slice(byte.as_bytes())?;
-    text.push(b'\n')?;
-    Ok(())
-}
-
-/// The file of the bytes that came: a line for each, with the number of steps before it and the byte in hexadecimal.
-pub fn record_file(alloc: Global, arrivals: &[Arrival]) -> Result<Vec<u8>, AllocError>
-    ensures { IfOk result (λ text. text.items ≡ record_text arrivals.now) }
-{
-    let mut text = Vec::new(alloc);
-    for arrival in arrivals {
-        put_arrival(alloc, &mut text, *arrival)?;
+    /// Runs the program again as in the session of a record, for at most `steps` steps. The station is only shown what the program puts.
+    pub fn replay<K: Station>(
+        self,
+        alloc: Global,
+        recorded: &Recorded,
+        station: &mut K,
+        steps: u64,
+    ) -> PlayedRan
+        ensures { (program : List ℕ) (words : List (List ℕ)) (image input : List ℕ) → IsReadyToRun program words image input self.entry
+            → IsReplayedRan program words image steps recorded.now.arrivals.items recorded.now.last (K.seat station.old) result.end result.turns result.pc (concat result.image) result.arrivals.items (K.seat station.new) }
+    {
+        let Ready {
+            program,
+            words,
+            disk,
+            typed: _,
+        } = self;
+        let played = cpm_run::replay(
+            alloc,
+            program,
+            &words,
+            disk,
+            &recorded.arrivals,
+            recorded.last,
+            station,
+            steps,
+        );
+        PlayedRan {
+            end: played.end,
+            turns: played.turns,
+            pc: played.pc,
+            image: played.disk.unmount(),
+            arrivals: played.arrivals,
+        }
     }
-    Ok(text)
 }
