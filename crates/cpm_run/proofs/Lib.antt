@@ -5,3 +5,4 @@ mod Going
 mod Sitting
 mod Replayed
 pub mod OneRun
+mod TypedBefore

@@ -1,10 +1,16 @@
 //! Laws of runs, as functions that do nothing.
 
-ghost use Rattle.std.specs.Prelude.{◌≡◌, ℕ, List};
+ghost use Rattle.std.specs.Prelude.{◌≡◌, ℕ, List, [], Some};
+ghost use Rattle.z80_cpu.specs.State.{machine};
+ghost use Rattle.z80_cpu.specs.declared.registers.Cpu.{Cpu};
+ghost use Rattle.cpm_console.specs.Dialog.{Dialog, dialog_of};
 ghost use Rattle.cpm_disk.specs.Calls.{Mounted};
 ghost use Rattle.cpm_bdos.specs.Alike.{AlikeDialogs, AlikeDisks, seen_nothing};
+ghost use Rattle.cpm_bdos.specs.System.{new_system};
 ghost use Rattle.cpm_run.specs.declared.ending.Why.{Why};
-ghost use Rattle.cpm_run.specs.Run.{IsRun};
+ghost use Rattle.cpm_run.specs.Play.{PlayedRunEnds, arrived, first_state};
+ghost use Rattle.cpm_run.specs.Run.{IsRun, TurnsEnd};
+ghost use Rattle.cpm_run.specs.Turns.{RunState};
 ghost use Rattle.cpm_run.specs.Undisturbed.{IsUndisturbed};
 
 use cpm_console::Console;
@@ -23,3 +29,10 @@ pub fn one_run<S: Sectors, C: Console>()
 {
     z80_machine::laws::one_turn();
 }
+
+/// A run on a console in memory is a session: all its input came before the first step, and nothing was shown.
+pub fn run_is_session<S: Sectors>()
+    ensures { (cpu : Cpu) (memory : List ℕ) (disk : Mounted S) (typed : List ℕ) (limit turns : ℕ) (end : Why) (new : RunState S Dialog) →
+        TurnsEnd S.sectors S.faults (λ d. d) limit (record { machine = machine cpu memory; system = new_system disk (dialog_of typed (Some []) 0) }) end turns new →
+        PlayedRunEnds S.sectors S.faults limit (first_state cpu memory disk) end (record { run = new; turns = turns; arrivals = arrived 0 typed; shown = [] }) }
+{}
