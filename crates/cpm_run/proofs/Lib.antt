@@ -6,3 +6,4 @@ mod Sitting
 mod Replayed
 pub mod OneRun
 mod TypedBefore
+mod OneSession
