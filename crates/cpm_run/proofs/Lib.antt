@@ -5,3 +5,5 @@ mod Going
 mod Sitting
 mod Replayed
 pub mod OneRun
+mod TypedBefore
+mod OneSession

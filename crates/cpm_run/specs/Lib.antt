@@ -7,4 +7,5 @@ pub mod Undisturbed
 pub mod Records
 pub mod Walks
 pub mod Play
+pub mod AlikeSessions
 pub mod Private

@@ -1,10 +1,17 @@
 //! Laws of runs, as functions that do nothing.
 
-ghost use Rattle.std.specs.Prelude.{◌≡◌, ℕ, List};
+ghost use Rattle.std.specs.Prelude.{◌≡◌, ℕ, List, [], Some};
+ghost use Rattle.z80_cpu.specs.State.{machine};
+ghost use Rattle.z80_cpu.specs.declared.registers.Cpu.{Cpu};
+ghost use Rattle.cpm_console.specs.Dialog.{Dialog, dialog_of};
 ghost use Rattle.cpm_disk.specs.Calls.{Mounted};
 ghost use Rattle.cpm_bdos.specs.Alike.{AlikeDialogs, AlikeDisks, seen_nothing};
+ghost use Rattle.cpm_bdos.specs.System.{new_system};
 ghost use Rattle.cpm_run.specs.declared.ending.Why.{Why};
-ghost use Rattle.cpm_run.specs.Run.{IsRun};
+ghost use Rattle.cpm_run.specs.AlikeSessions.{AlikeSessions};
+ghost use Rattle.cpm_run.specs.Play.{EndsBy, PlayState, PlayedRunEnds, PlaysOn, arrived, first_state};
+ghost use Rattle.cpm_run.specs.Run.{IsRun, TurnsEnd};
+ghost use Rattle.cpm_run.specs.Turns.{RunState};
 ghost use Rattle.cpm_run.specs.Undisturbed.{IsUndisturbed};
 
 use cpm_console::Console;
@@ -20,6 +27,29 @@ pub fn one_run<S: Sectors, C: Console>()
         IsRun S.sectors S.faults C.dialog file words disk console limit end turns pc left kept →
         IsRun S.sectors S.faults C.dialog file words other second limit cause steps address there held →
         (cause ≡ end) × (steps ≡ turns) × (address ≡ pc) × AlikeDisks S.sectors left there × AlikeDialogs (seen_nothing (C.dialog console).output) (C.dialog kept) (C.dialog held) }
+{
+    z80_machine::laws::one_turn();
+}
+
+/// A run on a console in memory is a session: all its input came before the first step, and nothing was shown.
+pub fn run_is_session<S: Sectors>()
+    ensures { (cpu : Cpu) (memory : List ℕ) (disk : Mounted S) (typed : List ℕ) (limit turns : ℕ) (end : Why) (new : RunState S Dialog) →
+        TurnsEnd S.sectors S.faults (λ d. d) limit (record { machine = machine cpu memory; system = new_system disk (dialog_of typed (Some []) 0) }) end turns new →
+        PlayedRunEnds S.sectors S.faults limit (first_state cpu memory disk) end (record { run = new; turns = turns; arrivals = arrived 0 typed; shown = [] }) }
+{}
+
+/// When the output is shown makes no difference to a session. Take two sessions of one program from the same registers and memory, on disks
+/// that look alike, with the same bytes after the same steps. After the same number of steps they have the same registers and memory, disks
+/// that look alike, and the same input. What was shown, followed by what was put and is not shown yet, is the same in both. If a last step
+/// ends both runs, they end for the same reason, unless memory ran out, or the disk or the console failed.
+pub fn one_session<S: Sectors>()
+    ensures between { (cpu : Cpu) (memory : List ℕ) (disk other : Mounted S) (a b : PlayState S) → AlikeDisks S.sectors disk other →
+        PlaysOn S.sectors S.faults (first_state cpu memory disk) a → PlaysOn S.sectors S.faults (first_state cpu memory other) b →
+        b.arrivals ≡ a.arrivals → b.turns ≡ a.turns → AlikeSessions S.sectors a b }
+    ensures at_end { (cpu : Cpu) (memory : List ℕ) (disk other : Mounted S) (a b : PlayState S) (end cause : Why) → AlikeDisks S.sectors disk other →
+        IsUndisturbed end → IsUndisturbed cause →
+        EndsBy S.sectors S.faults (first_state cpu memory disk) end a → EndsBy S.sectors S.faults (first_state cpu memory other) cause b →
+        b.arrivals ≡ a.arrivals → b.turns ≡ a.turns → (cause ≡ end) × AlikeSessions S.sectors a b }
 {
     z80_machine::laws::one_turn();
 }
