@@ -49,11 +49,7 @@ fn arrival_lines(alloc: Global, arrivals: &[Arrival]) -> Result<Vec<u8>, AllocEr
 
 /// The file of a session of `turns` steps: a line for each byte that came, with the number of steps before it and the byte in hexadecimal, and
 /// then a line with the number of steps and END.
-pub fn record_file(
-    alloc: Global,
-    arrivals: &[Arrival],
-    turns: u64,
-) -> Result<Vec<u8>, AllocError>
+pub fn record_file(alloc: Global, arrivals: &[Arrival], turns: u64) -> Result<Vec<u8>, AllocError>
     ensures { IfOk result (λ text. text.items ≡ record_text arrivals.now turns) }
 {
     let mut text = arrival_lines(alloc, arrivals)?;
@@ -116,7 +112,7 @@ pub fn read_record(alloc: Global, text: &[u8]) -> Result<Option<Recorded>, Alloc
         return Ok(None);
     };
     let again = record_file(alloc, &recorded.arrivals, recorded.last)?;
-    if again == text && is_in_order(&recorded.arrivals, recorded.last) {
+    if again.as_slice() == text && is_in_order(&recorded.arrivals, recorded.last) {
         return Ok(Some(recorded));
     }
     Ok(None)

@@ -13,8 +13,9 @@ returns c =
     let four = with_argument _ _ _ _ (flag_rule (codes "raw")) c.in_ok-arg-4.ensures c.raw.ensures.rule c.raw.ensures.local three in
     let five = with_argument _ _ _ _ (option_rule (codes "terminal") (codes "CODES")) c.in_ok-arg-5.ensures c.option-2.ensures.rule c.option-2.ensures.local four in
     let six = with_argument _ _ _ _ (option_rule (codes "record") (codes "FILE")) c.in_ok-arg-6.ensures c.option-3.ensures.rule c.option-3.ensures.local five in
-    let seven = with_argument _ _ _ _ (path_rule (codes "COM")) c.in_ok-arg-7.ensures c.path.ensures.rule c.path.ensures.local six in
+    let seven = with_argument _ _ _ _ (option_rule (codes "replay") (codes "REC")) c.in_ok-arg-7.ensures c.option-4.ensures.rule c.option-4.ensures.local six in
+    let eight = with_argument _ _ _ _ (path_rule (codes "COM")) c.in_ok-arg-8.ensures c.path.ensures.rule c.path.ensures.local seven in
     record {
-      app = IfOk-weaker c.arg-8.result _ _ (λ new adds. (with_argument _ new _ _ (words_rule (codes "WORD")) adds c.words.ensures.rule c.words.ensures.local seven).0) c.arg-8.ensures;
-      local = IfOk-weaker c.arg-8.result _ _ (λ new adds. (with_argument _ new _ _ (words_rule (codes "WORD")) adds c.words.ensures.rule c.words.ensures.local seven).1) c.arg-8.ensures;
+      app = IfOk-weaker c.arg-9.result _ _ (λ new adds. (with_argument _ new _ _ (words_rule (codes "WORD")) adds c.words.ensures.rule c.words.ensures.local eight).0) c.arg-9.ensures;
+      local = IfOk-weaker c.arg-9.result _ _ (λ new adds. (with_argument _ new _ _ (words_rule (codes "WORD")) adds c.words.ensures.rule c.words.ensures.local eight).1) c.arg-9.ensures;
     }
