@@ -1,3 +1,4 @@
+mod Order
 mod Read
 mod Told
 mod Traced
