@@ -115,7 +115,7 @@ _z80dev() {
 
     case $option in
     --out | -o) _z80dev_bases ;;
-    --with | --trace | --profile | --input | --record) _z80dev_any_file ;;
+    --with | --trace | --profile | --input | --record | --replay) _z80dev_any_file ;;
     --labels) _z80dev_files sym ;;
     --list) _z80dev_files lst ;;
     --symbols) mapfile -t COMPREPLY < <(compgen -W 'zsid ucsim' -- "$word") ;;
@@ -141,7 +141,7 @@ _z80dev() {
     blank) options='--mega --keep --no-lock -h --help' ;;
     run) options='--disk --no-lock --steps --labels --regs --last --trace --profile --list -h --help' ;;
     debug) options='--disk --input --labels --list -h --help' ;;
-    play) options='--disk --no-lock --steps --raw --terminal --record -h --help' ;;
+    play) options='--disk --no-lock --steps --raw --terminal --record --replay -h --help' ;;
     esac
     if [[ "$word" == -* || -z "$command" ]]; then
         mapfile -t COMPREPLY < <(compgen -W "$options" -- "$word")

@@ -18,7 +18,7 @@ function __z80dev_operands
             set is_value no
         else if contains -- "$words[2] $word" 'run --list' 'debug --list'
             set is_value yes
-        else if contains -- $word --out -o --define --with --labels --entry --disk --steps --last --trace --profile --input --user --symbols --color --terminal --record
+        else if contains -- $word --out -o --define --with --labels --entry --disk --steps --last --trace --profile --input --user --symbols --color --terminal --record --replay
             set is_value yes
         else if not string match -q -- '-*' $word
             echo $word
@@ -220,5 +220,6 @@ complete -c z80dev -n '__z80dev_at play' -l steps -x -d 'The most steps that are
 complete -c z80dev -n '__z80dev_at play' -l raw -d 'Each key comes as it is pressed'
 complete -c z80dev -n '__z80dev_at play' -l terminal -x -a 'adm3a vt52 none' -d 'Whose screen codes the program prints'
 complete -c z80dev -n '__z80dev_at play' -l record -r -F -d 'File to write with each byte that came'
+complete -c z80dev -n '__z80dev_at play' -l replay -r -F -d 'Record of a session to play again'
 complete -c z80dev -n '__z80dev_at play 0' -a '(__z80dev_files com)' -d 'Program'
 complete -c z80dev -n '__z80dev_at play; and not __z80dev_at play 0' -a '(set -l disk (__z80dev_disk); and __z80dev_names $disk[-1])' -d 'Name on the disk'
