@@ -124,7 +124,8 @@ fn stray_block(case: &Case<'_>, block: BlockWord) -> Result<Draft, AllocError> {
         BlockWord::Macro => case
             .on_word(owned(alloc, "a macro's name comes before MACRO")?)
             .help(owned(alloc, "`NAME MACRO p,..`")?),
-        BlockWord::Local if rest == 0 => Ok(case.on_word(owned(
+        // A list has one name more than it has commas.
+        BlockWord::Local if rest % 2 == 0 || !are_parameters(case) => Ok(case.on_word(owned(
             alloc,
             "LOCAL lists names with commas between them",
         )?)),
@@ -148,7 +149,7 @@ fn stray_block(case: &Case<'_>, block: BlockWord) -> Result<Draft, AllocError> {
     }
 }
 
-/// Whether the parameters of a macro are names with commas between them.
+/// Whether the parameters of a macro, or the tokens after LOCAL, are names with commas between them.
 fn are_parameters(case: &Case<'_>) -> bool {
     for (at, token) in case.form.rest.iter().enumerate() {
         let is_fit = if at % 2 == 0 {

@@ -73,8 +73,8 @@ pub(crate) fn name_text(name: Name) -> &'static str {
     }
 }
 
-/// A form as messages list it.
-fn form_text(form: Form) -> &'static str {
+/// A form as messages list it. The number of a jump is where it goes.
+fn form_text(mnemonic: Mnemonic, form: Form) -> &'static str {
     match form {
         Form::Name(name) => name_text(name),
         Form::At(Pointed::Hl) => "(HL)",
@@ -87,8 +87,20 @@ fn form_text(form: Form) -> &'static str {
         Form::Displaced(IndexRegister::Ix) => "(IX+d)",
         Form::Displaced(IndexRegister::Iy) => "(IY+d)",
         Form::AtNumber => "(address)",
-        Form::Number => "a number",
+        Form::Number => match mnemonic {
+            Mnemonic::Jp | Mnemonic::Call => "an address",
+            Mnemonic::Jr | Mnemonic::Djnz => "an address in reach (`$+n`)",
+            _ => "a number",
+        },
     }
+}
+
+/// Whether a mnemonic goes to an address.
+pub(crate) fn is_jump(mnemonic: Mnemonic) -> bool {
+    matches!(
+        mnemonic,
+        Mnemonic::Jp | Mnemonic::Call | Mnemonic::Jr | Mnemonic::Djnz
+    )
 }
 
 /// Whether a mnemonic takes operands of these forms.
@@ -135,6 +147,17 @@ pub(crate) fn firsts(
             has_second(mnemonic, *form)
         };
         if is_taken {
+            found.push(*form)?;
+        }
+    }
+    Ok(found)
+}
+
+/// The forms that the first operand of a mnemonic can have, whether a second one follows or not.
+pub(crate) fn all_firsts(alloc: Global, mnemonic: Mnemonic) -> Result<Vec<Form>, AllocError> {
+    let mut found = Vec::new(alloc);
+    for form in &FORMS {
+        if takes(mnemonic, &[*form]) || has_second(mnemonic, *form) {
             found.push(*form)?;
         }
     }
@@ -203,15 +226,31 @@ impl Counts {
     }
 }
 
-/// Forms in words: `A, B, (HL) or a number`.
-pub(crate) fn list_text(alloc: Global, forms: &[Form]) -> Result<String, AllocError> {
+/// Items in words: `A, B or C`.
+fn joined_by_or(alloc: Global, items: &[&'static str]) -> Result<String, AllocError> {
     let mut text = String::new(alloc);
-    for (at, form) in forms.iter().enumerate() {
+    for (at, item) in items.iter().enumerate() {
         if at > 0 {
-            let is_last = at.saturating_add(1) == forms.len();
+            let is_last = at.saturating_add(1) == items.len();
             text.push_str(if is_last { " or " } else { ", " })?;
         }
-        text.push_str(form_text(*form))?;
+        text.push_str(item)?;
     }
     Ok(text)
+}
+
+/// Forms of an operand of a mnemonic in words: `A, B, (HL) or a number`.
+pub(crate) fn list_text(
+    alloc: Global,
+    mnemonic: Mnemonic,
+    forms: &[Form],
+) -> Result<String, AllocError> {
+    let mut items = Vec::new(alloc);
+    for form in forms {
+        if *form == Form::Number && is_jump(mnemonic) {
+            items.push("a label")?;
+        }
+        items.push(form_text(mnemonic, *form))?;
+    }
+    joined_by_or(alloc, &items)
 }

@@ -3,7 +3,7 @@
 use crate::case::Case;
 use crate::draft::Draft;
 use crate::exchange::exchanged;
-use crate::forms::{Counts, firsts, list_text, name_text, seconds, takes};
+use crate::forms::{Counts, all_firsts, firsts, is_jump, list_text, name_text, seconds, takes};
 use crate::meant::meant;
 use crate::operands::{Operand, form_written, operands};
 use crate::showing::{joined, shown};
@@ -58,6 +58,58 @@ impl<'c, 'a> Misfit<'c, 'a> {
         }
     }
 
+    /// What to write instead of INC or DEC with a second operand, which is meant to be added or subtracted; None if nothing does that.
+    fn more_than_one(&self) -> Result<Option<String>, AllocError> {
+        let alloc = self.case.alloc;
+        let word = self.word;
+        let (l, r) = (self.operand_text(0)?, self.operand_text(1)?);
+        let (left, right) = (self.form(0), self.form(1));
+        let is_a = left == Form::Name(Name::A);
+        let add = Mnemonic::Alu(AluOperation::Add);
+        if self.mnemonic == Mnemonic::Inc && takes(add, &[left, right]) {
+            return Ok(Some(format!(in alloc; "`ADD {l},{r}` adds `{r}`; `INC {l}` adds 1")?));
+        }
+        let subtract = Mnemonic::Alu(AluOperation::Sub);
+        if self.mnemonic == Mnemonic::Dec && is_a && takes(subtract, &[right]) {
+            return Ok(Some(format!(in alloc;
+                "`SUB {r}` subtracts `{r}` from A; `DEC A` subtracts 1"
+            )?));
+        }
+        if takes(self.mnemonic, &[left]) {
+            return Ok(Some(format!(in alloc;
+                "`{word} {l}` changes it by 1, and a comment starts with `;`"
+            )?));
+        }
+        Ok(None)
+    }
+
+    /// What to write instead of two operands, if the mnemonic takes one.
+    fn one_too_many(&self) -> Result<Option<String>, AllocError> {
+        let alloc = self.case.alloc;
+        let word = self.word;
+        if self.operands.len() != 2 || !self.counts.one {
+            return Ok(None);
+        }
+        if matches!(self.mnemonic, Mnemonic::Inc | Mnemonic::Dec) {
+            return self.more_than_one();
+        }
+        let (left, right) = (self.form(0), self.form(1));
+        let is_a = left == Form::Name(Name::A);
+        if !takes(self.mnemonic, &[right]) {
+            return Ok(None);
+        }
+        let (l, r) = (self.operand_text(0)?, self.operand_text(1)?);
+        if is_a && matches!(self.mnemonic, Mnemonic::Alu(_)) {
+            return Ok(Some(format!(in alloc; "`{word} {r}` works on A")?));
+        }
+        if takes(self.mnemonic, &[left]) {
+            return Ok(Some(format!(in alloc;
+                "each has a line of its own: `{word} {l}` and `{word} {r}`"
+            )?));
+        }
+        Ok(None)
+    }
+
     /// The message where there are more operands than the mnemonic takes.
     fn too_many(&self) -> Result<Draft, AllocError> {
         let alloc = self.case.alloc;
@@ -65,15 +117,8 @@ impl<'c, 'a> Misfit<'c, 'a> {
         let text = format!(in alloc; "{word} takes {}", self.counts.text())?;
         let (at, count) = surplus(self.case, self.operands, self.counts.most());
         let draft = self.case.draft(at, count, text);
-        if self.operands.len() == 2
-            && self.form(0) == Form::Name(Name::A)
-            && takes(self.mnemonic, &[self.form(1)])
-        {
-            let right = self.operand_text(1)?;
-            if matches!(self.mnemonic, Mnemonic::Alu(_)) {
-                return draft.help(format!(in alloc; "`{word} {right}` works on A")?);
-            }
-            return draft.help(format!(in alloc; "write `{word} {right}`")?);
+        if let Some(help) = self.one_too_many()? {
+            return draft.help(help);
         }
         if let Some(help) = exchanged(alloc, self.mnemonic, self.form(0), self.form(1))? {
             return draft.help(help);
@@ -138,15 +183,14 @@ impl<'c, 'a> Misfit<'c, 'a> {
             let forms = seconds(alloc, self.mnemonic, self.form(0))?;
             if !forms.is_empty() {
                 let left = self.operand_text(0)?;
-                let list = list_text(alloc, &forms)?;
+                let list = list_text(alloc, self.mnemonic, &forms)?;
                 return self
                     .case
                     .on_word(text)
                     .note(format!(in alloc; "after `{word} {left},` come {list}")?);
             }
         }
-        let most = self.counts.most();
-        let list = list_text(alloc, &firsts(alloc, self.mnemonic, most)?)?;
+        let list = list_text(alloc, self.mnemonic, &all_firsts(alloc, self.mnemonic)?)?;
         let draft = self
             .case
             .on_word(text)
@@ -171,6 +215,11 @@ impl<'c, 'a> Misfit<'c, 'a> {
             self.mnemonic,
             Mnemonic::Ld | Mnemonic::Alu(AluOperation::Sbc)
         );
+        if is_jump(self.mnemonic) && right == Form::AtNumber {
+            return Ok(Some(format!(in alloc;
+                "an address to go to has no parentheses: `{word} {l},LABEL`"
+            )?));
+        }
         if may_turn && takes(self.mnemonic, &[right, left]) {
             return Ok(Some(format!(in alloc; "`{word} {r},{l}`")?));
         }
@@ -191,7 +240,7 @@ impl<'c, 'a> Misfit<'c, 'a> {
         let alloc = self.case.alloc;
         let word = self.word;
         let (l, r) = (self.operand_text(0)?, self.operand_text(1)?);
-        let list = list_text(alloc, forms)?;
+        let list = list_text(alloc, self.mnemonic, forms)?;
         let text = format!(in alloc; "{word} {l} takes {list}, not `{r}`")?;
         self.on_operand(1, text).help_if(self.two_instead()?)
     }
@@ -203,7 +252,7 @@ impl<'c, 'a> Misfit<'c, 'a> {
         let count = self.operands.len();
         let l = self.operand_text(0)?;
         let forms = firsts(alloc, self.mnemonic, count)?;
-        let list = list_text(alloc, &forms)?;
+        let list = list_text(alloc, self.mnemonic, &forms)?;
         let text = if self.mnemonic == Mnemonic::Jr && count == 2 {
             format!(in alloc; "JR has no condition {l}: it takes {list}")?
         } else if count == 2 {
@@ -218,6 +267,27 @@ impl<'c, 'a> Misfit<'c, 'a> {
         self.on_operand(0, text).help_if(help)
     }
 
+    /// What to write instead of an operand to which no jump goes.
+    fn jump_instead(&self, at: usize) -> Result<Option<String>, AllocError> {
+        let alloc = self.case.alloc;
+        let word = self.word;
+        let to_register = self.mnemonic == Mnemonic::Jp && at == 0;
+        match self.form(at) {
+            Form::AtNumber => Ok(Some(format!(in alloc;
+                "an address to go to has no parentheses: `{word} LABEL`"
+            )?)),
+            Form::Name(Name::Hl | Name::Ix | Name::Iy) if to_register => {
+                let written = self.operand_text(at)?;
+                Ok(Some(format!(in alloc; "`JP ({written})`")?))
+            }
+            Form::Name(name @ (Name::Bc | Name::De)) if to_register => {
+                let pair = name_text(name);
+                Ok(Some(format!(in alloc; "`PUSH {pair}` and `RET` go there")?))
+            }
+            _ => Ok(None),
+        }
+    }
+
     /// What to write instead of one operand that does not fit.
     fn one_instead(&self) -> Result<Option<String>, AllocError> {
         let alloc = self.case.alloc;
@@ -225,6 +295,9 @@ impl<'c, 'a> Misfit<'c, 'a> {
         let written = self.operand_text(0)?;
         if written.as_str() == "PSW" || written.as_str() == "psw" {
             return Ok(Some(format!(in alloc; "`{word} AF`")?));
+        }
+        if is_jump(self.mnemonic) {
+            return self.jump_instead(0);
         }
         let pair = match self.form(0) {
             Form::Name(Name::A) => Name::Af,

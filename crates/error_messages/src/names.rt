@@ -133,6 +133,14 @@ fn as_number(case: &Case<'_>, name: &[u8]) -> Result<Option<String>, AllocError>
     }
 }
 
+/// Whether a name is one that the assembler makes for LOCAL: `??` and five digits or more.
+fn is_made(name: &[u8]) -> bool {
+    match name {
+        [b'?', b'?', digits @ ..] => digits.len() >= 5 && digits.iter().all(|b| b.is_ascii_digit()),
+        _ => false,
+    }
+}
+
 /// The message about a name that is not defined.
 pub(crate) fn undefined(case: &Case<'_>) -> Result<Draft, AllocError> {
     let alloc = case.alloc;
@@ -155,6 +163,11 @@ pub(crate) fn undefined(case: &Case<'_>) -> Result<Draft, AllocError> {
     let draft = case.draft(at, 1, format!(in alloc; "`{written}` is not defined")?);
     if let Some(help) = as_number(case, &name)? {
         return draft.help(help);
+    }
+    if is_made(&name) {
+        return draft.help(format!(in alloc;
+            "LOCAL has `{written}`, and no line of the macro's body is its label or its EQU"
+        )?);
     }
     match near_help(case, &name)? {
         Some(help) => draft.help(help),
@@ -197,9 +210,12 @@ fn external_too(
     )?)
 }
 
-/// Whether a label is also an external of its own line, which is the one that defines it.
+/// Whether a label is also an external of its own line, which is the one that defines it. In a macro other lines have the same number.
 fn is_also_external(case: &Case<'_>, at: usize, name: &[u8], line: u32) -> bool {
-    line == case.finding.number
+    let word = case.word();
+    let is_extrn = word.eq_ignore_ascii_case(b"EXTRN") || word.eq_ignore_ascii_case(b"EXTERNAL");
+    is_extrn
+        && line == case.finding.number
         && at < case.rest_at()
         && token_named(case.tokens, case.rest_at(), name).is_some()
 }
@@ -235,14 +251,19 @@ pub(crate) fn duplicate(case: &Case<'_>) -> Result<Draft, AllocError> {
             return external_too(case, at, here, there, line);
         }
     }
+    let is_expanded = is_expanded(case);
     let draft = match first {
+        // Lines of one call have one number.
+        Some(line) if is_expanded && line == case.finding.number => {
+            draft.note(String::from_str(alloc, "first in the same call or REPT")?)?
+        }
         Some(line) => {
             let at = case.at_line(line)?;
             draft.note(format!(in alloc; "first {at}")?)?
         }
         None => draft,
     };
-    if is_expanded(case) {
+    if is_expanded && !is_made(&name) {
         return draft.help(format!(in alloc;
             "in a macro, `LOCAL {written}` makes it new in each call; in a REPT, repeat the call of such a macro"
         )?);
@@ -471,7 +492,7 @@ pub(crate) fn reserved_name(case: &Case<'_>) -> Result<Draft, AllocError> {
     }
     let what = reserved_text(&upper);
     let written = case.joined(found, 1)?;
-    let used = if case.form.label.is_some() {
+    let used = if case.form.label.is_some() && found < case.rest_at() {
         "a label"
     } else {
         "a name"

@@ -70,14 +70,14 @@ fn meant_number(alloc: Global, token: &[u8]) -> Result<Option<String>, AllocErro
     }
 }
 
-/// The digits of a number without the letter of its base, and that letter's base in words; all digits if the last one is no letter.
+/// The digits of a number without the letter of its base, and that letter's base in words, with its article; all digits if the last one is no letter.
 fn base_of(token: &[u8]) -> (&[u8], &'static str, u32) {
     match token {
-        [digits @ .., b'h' | b'H'] => (digits, "hexadecimal", 16),
-        [digits @ .., b'b' | b'B'] => (digits, "binary", 2),
-        [digits @ .., b'o' | b'O' | b'q' | b'Q'] => (digits, "octal", 8),
-        [digits @ .., b'd' | b'D'] => (digits, "decimal", 10),
-        _ => (token, "decimal", 10),
+        [digits @ .., b'h' | b'H'] => (digits, "a hexadecimal", 16),
+        [digits @ .., b'b' | b'B'] => (digits, "a binary", 2),
+        [digits @ .., b'o' | b'O' | b'q' | b'Q'] => (digits, "an octal", 8),
+        [digits @ .., b'd' | b'D'] => (digits, "a decimal", 10),
+        _ => (token, "a decimal", 10),
     }
 }
 
@@ -133,7 +133,7 @@ impl<'a> Uncut<'a> {
             return self.draft(text).help_if(meant_number(alloc, self.token)?);
         }
         let wrong = shown(alloc, &[wrong])?;
-        let text = format!(in alloc; "`{token}` is not a number: `{wrong}` is not a {name} digit")?;
+        let text = format!(in alloc; "`{token}` is not a number: `{wrong}` is not {name} digit")?;
         let draft = self.draft(text);
         match meant_number(alloc, self.token)? {
             Some(help) => draft.help(help),

@@ -10,9 +10,10 @@ use crate::showing::shown;
 use crate::worth::is_expression;
 use asm_line::Head;
 use asm_scan::{Kind, Mark, Token};
+use asm_spell::{Body, Line, StmtFault, statement};
 use common::is_reserved;
 use std::alloc::AllocError;
-use z80_form::{Name, mnemonic_of};
+use z80_form::{Field, Name, mnemonic_of};
 
 /// Whether some tokens can begin an expression: whether they are one if their parentheses are closed, perhaps after one more number.
 fn can_begin(case: &Case<'_>, front: &[Token<'_>]) -> Result<bool, AllocError> {
@@ -95,6 +96,43 @@ fn characters(text: &[u8]) -> usize {
     inner.saturating_sub(quotes / 2)
 }
 
+/// Whether a statement has a byte in it, and no word.
+fn has_byte(body: &Body) -> bool {
+    match body {
+        Body::Bytes(_) => true,
+        Body::Code { numbers, .. } => {
+            let fields = numbers.as_slice();
+            fields.iter().any(|number| number.0 == Field::Byte)
+        }
+        _ => false,
+    }
+}
+
+/// Whether the expression with this token is a byte of the statement, so that it has no room for two characters.
+fn is_byte(case: &Case<'_>, at: usize) -> Result<bool, AllocError> {
+    let mut tokens = Vec::with_capacity(case.alloc, case.tokens.len())?;
+    for (number, token) in case.tokens.iter().enumerate() {
+        if number == at {
+            let kind = Kind::Number(1);
+            tokens.push(Token { kind, text: b"1" })?;
+        } else {
+            tokens.push(*token)?;
+        }
+    }
+    let line = match statement(case.alloc, &tokens) {
+        Ok(line) => line,
+        Err(StmtFault::NoMemory) => return Err(AllocError),
+        Err(_) => return Ok(false),
+    };
+    match &line {
+        Line::Statement {
+            body: Some(body),
+            ..
+        } => Ok(has_byte(body)),
+        _ => Ok(false),
+    }
+}
+
 /// The message about a string in an expression that has not one character.
 fn long_string(case: &Case<'_>, at: usize, text: &[u8]) -> Result<Draft, AllocError> {
     let alloc = case.alloc;
@@ -103,10 +141,12 @@ fn long_string(case: &Case<'_>, at: usize, text: &[u8]) -> Result<Draft, AllocEr
     let text = format!(in alloc;
         "a string in an expression has one character, and `{written}` has {count}"
     )?;
-    case.draft(at, 1, text).help(String::from_str(
-        alloc,
-        "a string of any length is an item of DB by itself; two characters are `'A'*256+'B'`",
-    )?)
+    let help = if is_byte(case, at)? {
+        "a byte holds one character, as `'A'`; a string of any length is an item of DB by itself"
+    } else {
+        "a string of any length is an item of DB by itself; two characters are `'A'*256+'B'`"
+    };
+    case.draft(at, 1, text).help(String::from_str(alloc, help)?)
 }
 
 /// Whether a token is a register pair in parentheses with a displacement after it, as in `(HL+1)`.

@@ -2,7 +2,8 @@
 
 use crate::case::Case;
 use crate::draft::Draft;
-use crate::operands::{Operand, expression_in, left_open, operands};
+use crate::forms::name_text;
+use crate::operands::{Operand, expression_in, form_written, left_open, operands};
 use crate::showing::{joined, shown};
 use crate::worth::{Worth, judge, worth_of};
 use asm_expr::{Offset, is_defined, offset_from_here};
@@ -11,8 +12,8 @@ use asm_parse::{ExprFault, Tree};
 use asm_scan::{Kind, Mark, Token};
 use asm_spell::{Body, Line, StmtFault, Value, statement};
 use common::is_reserved;
-use std::alloc::AllocError;
-use z80_form::{Field, mnemonic_of};
+use std::alloc::{AllocError, Global};
+use z80_form::{Field, Form, Mnemonic, Name, mnemonic_of};
 
 /// The bytes of `JR` and `DJNZ`, from whose end their distance counts.
 const SHORT_JUMP: u16 = 2;
@@ -238,6 +239,58 @@ fn as_operand(case: &Case<'_>, part: Option<Operand<'_>>) -> Result<String, Allo
     }
 }
 
+/// What to write if the byte at an address is meant, given the mnemonic, what comes before its last operand, and the address.
+fn byte_there(
+    alloc: Global,
+    mnemonic: Mnemonic,
+    before: &[Operand<'_>],
+    address: &str,
+) -> Result<Option<String>, AllocError> {
+    match (mnemonic, before) {
+        (Mnemonic::Ld, [to]) => match form_written(to) {
+            Form::Name(Name::A) => Ok(Some(format!(in alloc;
+                "`LD A,({address})` loads the byte that is there"
+            )?)),
+            Form::Name(name) => {
+                let to = name_text(name);
+                Ok(Some(format!(in alloc;
+                    "`LD A,({address})` and `LD {to},A` load the byte that is there"
+                )?))
+            }
+            _ => Ok(None),
+        },
+        (Mnemonic::Alu(_), _) => Ok(Some(format!(in alloc;
+            "after `LD HL,{address}` the byte that is there is `(HL)`"
+        )?)),
+        _ => Ok(None),
+    }
+}
+
+/// What to write if the byte at an address is meant, or both bytes of the address; None if the line tells neither.
+fn instead_of_byte(
+    case: &Case<'_>,
+    part: Option<Operand<'_>>,
+    address: &str,
+) -> Result<Option<String>, AllocError> {
+    let alloc = case.alloc;
+    let Head::Word(word) = case.form.head else {
+        return Ok(None);
+    };
+    let found = operands(case)?;
+    let [before @ .., last] = found.as_slice() else {
+        return Ok(None);
+    };
+    match (mnemonic_of(word), part) {
+        (Some(mnemonic), Some(part)) if part.at == last.at => {
+            byte_there(alloc, mnemonic, before, address)
+        }
+        (None, _) if word.eq_ignore_ascii_case(b"DB") || word.eq_ignore_ascii_case(b"DEFB") => {
+            Ok(Some(format!(in alloc; "`DW {address}` has both bytes")?))
+        }
+        _ => Ok(None),
+    }
+}
+
 /// The message about a byte that is an address.
 pub(crate) fn needs_low_or_high(case: &Case<'_>) -> Result<Draft, AllocError> {
     let alloc = case.alloc;
@@ -248,7 +301,8 @@ pub(crate) fn needs_low_or_high(case: &Case<'_>) -> Result<Draft, AllocError> {
         "an address does not fit in a byte: `{written}` depends on addresses"
     )?;
     on_part(case, part, text)
-        .help(format!(in alloc; "`LOW {operand}` or `HIGH {operand}`")?)?
+        .help(format!(in alloc; "`LOW {operand}` or `HIGH {operand}` is a byte of it")?)?
+        .help_if(instead_of_byte(case, part, &written)?)?
         .note(String::from_str(
             alloc,
             "a distance is a number only as `Y-X`, with no jump between them that may become shorter",

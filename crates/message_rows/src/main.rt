@@ -3,6 +3,7 @@
 //! The head of `stdin` says which calls there are and what their columns mean; a line of `;` is a remark.
 #![tactic(auto)]
 
+mod printed;
 mod telling;
 
 use row_text::Row;
@@ -21,6 +22,7 @@ fn main(rt: HostRuntime) -> Result<(), anyhow::Error> {
                 "says" => telling::answer_first(&mut row),
                 "after" => telling::answer_after(&mut row),
                 "all" => telling::answer_all(&mut row),
+                "prints" => printed::answer_printed(&mut row),
                 _ => row.refuse("no such call"),
             }
             row.print(&mut out)?;

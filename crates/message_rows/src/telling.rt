@@ -69,13 +69,7 @@ fn has_all(row: &mut Row<'_>, told: &Told, place: &str, words: &str) -> bool {
     let all = said(row, &told.message);
     let mut own = Row::new(row.alloc(), "");
     print_place(&mut own, told);
-    let mut has = own.answer() == place.as_bytes();
-    for word in words.split(" & ") {
-        if !all.as_slice().contains_str(word.as_bytes()) {
-            has = false;
-        }
-    }
-    has
+    own.answer() == place.as_bytes() && crate::printed::has_all(&all, words.as_bytes())
 }
 
 /// The errors of a source.

@@ -1,10 +1,11 @@
 //! Finds lines that cannot be cut into tokens, and mends them, so that the others can be judged.
 
-ghost use Rattle.std.specs.Prelude.{◌≡◌, ◌<◌, ◌++◌, ◌∷◌, ◌==◌, ◌^◌, [], ℕ, List, IfOk, OnOk, length, map};
+ghost use Rattle.std.specs.Prelude.{◌≡◌, ◌<◌, ◌++◌, ◌∷◌, ◌==◌, ◌||◌, ◌^◌, [], ℕ, List, IfOk, OnOk, false, length, map, slice_index_or};
 ghost use Rattle.std.specs.List.{list_any};
 ghost use Rattle.std.specs.Option.{option_to_list};
 ghost use Rattle.asm_macro.specs.Texts.{source_lines};
 ghost use Rattle.asm_macro.specs.Views.{lines_seen};
+ghost use Rattle.asm_text.specs.Lines.{Numbered};
 ghost use Rattle.source_errors.specs.Findings.{finding_of};
 ghost use Rattle.source_errors.specs.Found.{front, mended, mended_text, scan_error, scan_errors, scan_fault};
 
@@ -66,36 +67,59 @@ pub fn mended_text(alloc: Global, lines: &Lines<'_>) -> Result<Vec<u8>, AllocErr
     Ok(text)
 }
 
-/// Whether one of the lines of an expansion bears this number.
-fn is_among(lines: &[ExpandedLine], number: u32) -> bool
-    ensures { result ≡ list_any (λ l. l.number == number) lines.now }
+/// Marks a number, if it is one of these.
+fn mark(flags: &mut [bool], at: usize)
+    ensures len { length flags.new ≡ length flags.old }
+    ensures each { (k : ℕ) → k < length flags.old → slice_index_or flags.new k false ≡ (slice_index_or flags.old k false || (at == k)) }
 {
-    lines.iter().any(|line| line.number == number)
+    if at < flags.len() {
+        flags[at] = true;
+    }
 }
 
-/// The same, as definitions see the lines.
-fn is_read(lines: &[ExpandedLine], number: u32) -> bool
-    ensures { result ≡ list_any (λ l. l.number == number) (lines_seen lines.now) }
+/// Answers for each number below this one whether one of the lines of an expansion bears it.
+fn numbers_read(
+    alloc: Global,
+    expanded: &[ExpandedLine],
+    count: usize,
+) -> Result<Vec<bool>, AllocError>
+    ensures len { IfOk result (λ flags. length flags.items ≡ count) }
+    ensures each { IfOk result (λ flags. (k : ℕ) → k < count → slice_index_or flags.items k false ≡ list_any (λ l. l.number == k) (lines_seen expanded.now)) }
 {
-    is_among(lines, number)
+    let mut flags = vec![in alloc; false; count]?;
+    for line in expanded {
+        mark(&mut flags, line.number as usize);
+    }
+    Ok(flags)
+}
+
+/// Whether a number is marked.
+fn is_read(flags: &[bool], number: u32) -> bool
+    ensures { result ≡ slice_index_or flags.now number false }
+{
+    match flags.get(number as usize) {
+        Some(is_read) => *is_read,
+        None => false,
+    }
 }
 
 /// Appends the error of a line that cannot be cut into tokens, if it is not the line with the number `other`, and the expansion reads it.
+/// `flags` says of each number whether a line of the expansion bears it.
 fn put_scan_error(
     alloc: Global,
     other: u32,
-    expanded: &[ExpandedLine],
+    flags: &[bool],
     number: u32,
     line: &[u8],
     findings: &mut Vec<Finding>,
 ) -> Result<(), AllocError>
-    ensures { OnOk result (map finding_of findings.new.items ≡ map finding_of findings.old.items
-        ++ option_to_list (scan_error other (lines_seen expanded.now) (record { number = number; text = line.now }))) }
+    ensures { OnOk result ((lines : List Numbered) → slice_index_or flags.now number false ≡ list_any (λ l. l.number == number) lines → map finding_of findings.new.items ≡ map finding_of findings.old.items
+        ++ option_to_list (scan_error other lines (record { number = number; text = line.now }))) }
 {
     let Some(why) = fault_of(alloc, line)? else {
         return Ok(());
     };
-    if number == other || !is_read(expanded, number) {
+    if number == other || !is_read(flags, number) {
         return Ok(());
     }
     findings.push(Finding {
@@ -118,9 +142,10 @@ pub(crate) fn put_scan_errors(
     requires { length lines.now < 2 ^ 32 }
     ensures { OnOk result ((text : List ℕ) → lines.now ≡ source_lines text → map finding_of findings.new.items ≡ map finding_of findings.old.items ++ scan_errors other (lines_seen expanded.now) text) }
 {
+    let flags = numbers_read(alloc, expanded, lines.len() + 1)?;
     for at in 0..lines.len() {
         let number = at as u32 + 1;
-        put_scan_error(alloc, other, expanded, number, lines.line(at), findings)?;
+        put_scan_error(alloc, other, &flags, number, lines.line(at), findings)?;
     }
     Ok(())
 }

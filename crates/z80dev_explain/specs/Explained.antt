@@ -20,7 +20,7 @@ use Rattle.z80dev_make.specs.declared.answer.SourceFile.{SourceFile}
 use Rattle.z80dev_make.specs.declared.front.Front.{Front}
 use Rattle.z80dev_explain.specs.declared.report.Explained.{Explained}
 use Rattle.z80dev_explain.specs.declared.report.Report.{Report}
-use Rattle.z80dev_explain.specs.Reports.{is_report_of}
+use Rattle.z80dev_explain.specs.Reports.{bears_name, is_report_of, link_name}
 
 -- how many warnings there are about the jumps of a program
 abbrev pub warning_count : Built → ℕ
@@ -51,11 +51,11 @@ pub record AreWarned (front : Front) (behind : List Source) (count : ℕ) : Type
   pub all : count ≡ sum_by (λ n. n) counts
 
 -- The reports for what building sources after a front answers: a report for each warning about a jump and about a source; or errors, among
--- them the one for which building refuses a source.
+-- them the one for which building refuses a source, or the modules together.
 abbrev pub AreReports : Front → List Source → Result Built BuildFault → List Report → Type 0
 AreReports front behind (Ok built) reports = (count : ℕ) × AreWarned front behind count × (length reports ≡ warning_count built + count)
 AreReports front behind (Err (build.Asm source fault)) reports = list_any (is_report_of source fault) reports ≡ true
-AreReports front behind (Err (build.Link fault)) reports = 0 < length reports
+AreReports front behind (Err (build.Link fault)) reports = list_any (bears_name (link_name fault)) reports ≡ true
 
 -- What is said of sources after a front, given what building them answers.
 pub record IsExplainedBehind (front : Front) (grow : Bool) (files : List SourceFile) (has_program : Bool) (reports : List Report) : Type 0 where

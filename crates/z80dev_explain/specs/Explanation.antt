@@ -1,5 +1,5 @@
 -- What the command `explain` says of sources.
-use Rattle.std.specs.Prelude.{◌≡◌, ℕ, Bool, true, List, [], Option, None}
+use Rattle.std.specs.Prelude.{◌≡◌, ℕ, Bool, true, false, ◌==◌, List, [], ◌++◌, Option, None, Some, codes, decimal, if◌then◌else◌, length}
 use Rattle.z80dev_make.specs.declared.answer.SourceFile.{SourceFile}
 use Rattle.z80dev_make.specs.declared.front.Front.{Front}
 use Rattle.z80dev_explain.specs.Explained.{IsExplained}
@@ -9,10 +9,20 @@ use Rattle.z80dev_explain.specs.declared.report.Report.{Report}
 abbrev pub IsFine : Bool → List Report → Type 0
 IsFine has_program reports = (has_program ≡ true) × (reports ≡ [])
 
--- The sources are explained so; there is no summary exactly if there is a program and nothing to report.
+-- this many of something: `1 error`, `2 errors`
+abbrev pub count_text : ℕ → List ℕ → List ℕ
+count_text count what = if count == 1 then codes "1 " ++ what else decimal count ++ (codes " " ++ (what ++ codes "s"))
+
+-- how many errors there are; or if there is a program, how many warnings, if there are some
+abbrev pub summary_of : Bool → List Report → Option (List ℕ)
+summary_of false reports = Some (count_text (length reports) (codes "error"))
+summary_of true reports = if length reports == 0 then None else Some (count_text (length reports) (codes "warning"))
+
+-- The sources are explained so, and summed up so; there is no summary exactly if there is a program and nothing to report.
 pub record IsExplanation (front : Front) (grow : Bool) (files : List SourceFile) (text : List ℕ) (summary : Option (List ℕ)) : Type 0 where
   pub has_program : Bool
   pub reports : List Report
   pub explained : IsExplained front grow files has_program reports
+  pub sum : summary ≡ summary_of has_program reports
   pub fine : summary ≡ None → IsFine has_program reports
   pub wrong : IsFine has_program reports → summary ≡ None

@@ -4,14 +4,16 @@ ghost use Rattle.std.specs.Prelude.{◌≡◌, IfOk, OnOk, true};
 ghost use Rattle.std.specs.List.{list_any};
 ghost use Rattle.z80dev_explain.specs.Reports.{is_report_of};
 
+use crate::cutting::{macro_in, tokens_of};
 use crate::grouping::{Group, MOST_OTHERS, grouped};
 use crate::placing::Site;
 use crate::report::{Report, Severity, Where};
 use crate::sources::Sources;
-use crate::written::{Trace, Written, macro_in, tokens_of, traced};
-use asm_line::{BlockWord, Head, form_of};
+use crate::written::{Traces, traced};
+use asm_line::{BlockWord, Head, form_of, names};
 use asm_macro::MacroFault;
 use asm_module::{AsmFault, Why};
+use asm_scan::{ScanFault, tokens};
 use common::NameKey;
 use error_messages::{Before, Note, Place, SourceLines, empty_parameter, message, opener_of};
 use source_errors::{Finding, Findings, Known, find_errors};
@@ -27,8 +29,8 @@ struct Faulty<'s, 'f> {
     source: usize,
     text: SourceLines<'s>,
     known: Option<Known>,
-    /// Where the lines of its expansion are written, if one of its errors is not in the line with its number.
-    trace: Option<Trace>,
+    /// Where the lines of its expansion are written, if the expansion stops or one of its errors is not in the line with its number.
+    traces: Traces,
 }
 
 impl<'s, 'f> Faulty<'s, 'f> {
@@ -48,13 +50,13 @@ impl<'s, 'f> Faulty<'s, 'f> {
         ensures { IfOk result (λ r. is_report_of source (record { line = site.entry.reported; why = finding.now.why }) r ≡ true) }
     {
         let alloc = self.alloc;
-        let mut message = message(alloc, &self.text, finding, self.known.as_ref())?;
-        self.sources
-            .put_calls(alloc, self.source, site, &mut message.notes)?;
+        let message = message(alloc, &self.text, finding, self.known.as_ref())?;
+        let mut all = site.own_notes(alloc, &message.notes)?;
+        self.sources.put_calls(alloc, self.source, site, &mut all)?;
         let mut notes = notes;
-        message.notes.append(&mut notes)?;
+        all.append(&mut notes)?;
         if self.known.is_none() && matches!(finding.why, Why::Macro(_)) {
-            message.notes.push(Note::Note(String::from_str(
+            all.push(Note::Note(String::from_str(
                 alloc,
                 "no other error of this source is looked for until this one is mended",
             )?))?;
@@ -63,9 +65,9 @@ impl<'s, 'f> Faulty<'s, 'f> {
         Ok(Report {
             severity: Severity::Error,
             at: Some(at),
-            text: message.text,
+            text: site.own_text(alloc, &message.text)?,
             name: String::from_str(alloc, why_name(finding.why))?,
-            notes: message.notes,
+            notes: all,
         })
     }
 
@@ -90,9 +92,9 @@ impl<'s, 'f> Faulty<'s, 'f> {
         })
     }
 
-    /// The line of a LOCAL in the body of a macro that does not come first in it; None if there is none.
-    fn late_local(&self, name: &[u8]) -> Result<Option<u32>, AllocError> {
-        let (mut number, mut is_in, mut is_first) = (0u32, false, true);
+    /// The first line of a macro's body that is a LOCAL without a list of names; None if there is none.
+    fn bad_local(&self, name: &[u8]) -> Result<Option<u32>, AllocError> {
+        let (mut number, mut is_in) = (0u32, false);
         for _ in 0..self.text.len() {
             number = number.saturating_add(1);
             let line = self.text.line(number);
@@ -100,18 +102,16 @@ impl<'s, 'f> Faulty<'s, 'f> {
                 is_in = is_macro(self.alloc, line, name)?;
                 continue;
             }
-            let found = tokens_of(self.alloc, line)?;
-            match form_of(&found).head {
-                Head::Block(BlockWord::Local) if !is_first => return Ok(Some(number)),
-                Head::Block(BlockWord::Local) => (),
-                Head::Block(BlockWord::EndM) => return Ok(None),
-                _ => is_first = false,
+            match locals_in(self.alloc, line)? {
+                Locals::Bad => return Ok(Some(number)),
+                Locals::Names => (),
+                Locals::None => return Ok(None),
             }
         }
         Ok(None)
     }
 
-    /// The line of a LOCAL at which the expansion stops in a call; None if it stops at something else.
+    /// The line of a LOCAL without a list of names for which the expansion stops at a call; None if it stops for something else.
     fn stray_local(&self, finding: &Finding) -> Result<Option<u32>, AllocError> {
         if finding.why != Why::Macro(MacroFault::Stray) {
             return Ok(None);
@@ -120,7 +120,7 @@ impl<'s, 'f> Faulty<'s, 'f> {
         match form_of(&found).head {
             Head::Word(word) => {
                 let name = word.to_ascii_uppercase(self.alloc)?;
-                self.late_local(&name)
+                self.bad_local(&name)
             }
             _ => Ok(None),
         }
@@ -136,18 +136,32 @@ impl<'s, 'f> Faulty<'s, 'f> {
         })
     }
 
-    /// Answers the report of a call that stops at a LOCAL, in the line of that.
-    fn report_local(&self, finding: &Finding, line: u32) -> Result<Report<'f>, AllocError> {
+    /// Answers the report of a call that stops for a LOCAL, in the line of that.
+    fn report_local(
+        &self,
+        finding: &Finding,
+        line: u32,
+        call: Site<'_>,
+    ) -> Result<Report<'f>, AllocError> {
         let moved = self.moved(finding, line)?;
-        let mut calls = Vec::new(self.alloc);
-        calls.push(finding.number)?;
-        let written = Written { line, calls };
-        let site = Site::traced(finding.number, &moved.text, &written);
+        let mut calls = call.calls.to_vec(self.alloc)?;
+        calls.push(call.line)?;
+        let site = Site {
+            line,
+            text: &moved.text,
+            calls: &calls,
+            ..call
+        };
         self.report(self.source, &moved, site, Vec::new(self.alloc))
     }
 
     /// Answers the report of an ENDIF, ELSE or ENDM for which only a word of another assembler opens a block, in the line of that word.
-    fn report_opener(&self, finding: &Finding, line: u32) -> Result<Report<'f>, AllocError> {
+    fn report_opener(
+        &self,
+        finding: &Finding,
+        line: u32,
+        closer: Site<'_>,
+    ) -> Result<Report<'f>, AllocError> {
         let alloc = self.alloc;
         let moved = self.moved(finding, line)?;
         let found = tokens_of(alloc, &finding.text)?;
@@ -155,7 +169,7 @@ impl<'s, 'f> Faulty<'s, 'f> {
             Some(token) => error_messages::shown(alloc, token.text)?,
             None => String::new(alloc),
         };
-        let own = self.sources.located(self.source, finding.number);
+        let own = self.sources.located(self.source, closer.line);
         let (path, number) = (own.path, own.line);
         let mut notes = Vec::new(alloc);
         notes.push(Note::Note(format!(in alloc;
@@ -163,7 +177,8 @@ impl<'s, 'f> Faulty<'s, 'f> {
         )?))?;
         let site = Site {
             line,
-            ..Site::plain(finding.number, &moved.text)
+            text: &moved.text,
+            ..closer
         };
         self.report(self.source, &moved, site, notes)
     }
@@ -187,47 +202,176 @@ impl<'s, 'f> Faulty<'s, 'f> {
         Ok(Note::Note(text))
     }
 
-    /// Appends a note about a parameter that is empty in the line of an error.
+    /// Whether a line begins a REPT.
+    fn is_rept(&self, line: u32) -> Result<bool, AllocError> {
+        let found = tokens_of(self.alloc, self.text.line(line))?;
+        match form_of(&found).head {
+            Head::Block(BlockWord::Rept) => Ok(true),
+            _ => Ok(false),
+        }
+    }
+
+    /// Appends a note about a parameter that is empty in the line of an error, in the innermost call that leads there.
     fn put_empty(&self, site: Site<'_>, notes: &mut Vec<Note>) -> Result<(), AllocError> {
         let alloc = self.alloc;
-        let Some(call) = site.calls.last() else {
-            return Ok(());
-        };
-        if let Some(name) = empty_parameter(alloc, &self.text, *call, site.line)? {
-            notes.push(Note::Note(format!(in alloc;
-                "the parameter `{name}` is empty in that call"
-            )?))?;
+        for call in site.calls.iter().rev() {
+            let is_rept = self.is_rept(*call)?;
+            if !is_rept {
+                if let Some(name) = empty_parameter(alloc, &self.text, *call, site.line)? {
+                    let own = self.sources.located(self.source, *call);
+                    let (path, line) = (own.path, own.line);
+                    notes.push(Note::Note(format!(in alloc;
+                        "the parameter `{name}` is empty in that call, at {path}:{line}"
+                    )?))?;
+                }
+                return Ok(());
+            }
         }
         Ok(())
     }
 
     /// Where the line of an error is written.
     fn site<'e>(&'e self, group: &Group, finding: &'e Finding) -> Site<'e> {
-        let written = match (&self.trace, group.traced) {
-            (Some(trace), Some(at)) => trace.written.get(at),
+        let found = match (&self.traces.whole, group.traced) {
+            (Some(trace), Some(at)) => Site::traced(trace, at, finding.number),
             _ => None,
         };
-        match written {
-            Some(written) => Site::traced(finding.number, &finding.text, written),
+        match found {
+            Some(site) => site,
             None => Site::plain(finding.number, &finding.text),
         }
     }
 
+    /// Where the line is written at which the expansion stops, if a call or a REPT leads to it, and building reports it by this line.
+    fn stop_site(&self, reported: u32) -> Option<Site<'_>> {
+        let trace = self.traces.stop.as_ref()?;
+        let last = trace.lines.len().checked_sub(1)?;
+        let site = Site::traced(trace, last, reported)?;
+        if site.calls.is_empty() {
+            None
+        } else {
+            Some(site)
+        }
+    }
+
+    /// The error at which the expansion stops, in the line at which it stops. Which lines come before a word that closes no block is seen in
+    /// the source as it is written; what EQU lines come before a condition, in the order of the expansion.
+    fn stopped(&self, finding: &Finding, site: Site<'_>) -> Result<Finding, AllocError> {
+        let number = match finding.why {
+            Why::Macro(MacroFault::Stray) => site.line,
+            _ => finding.number,
+        };
+        Ok(Finding {
+            number,
+            text: site.text.to_vec(self.alloc)?,
+            why: finding.why,
+            name: None,
+        })
+    }
+
     /// Answers the report of an error.
     fn report_group(&self, group: &Group, finding: &Finding) -> Result<Report<'f>, AllocError> {
+        // Only the first error can be the one at which the expansion stops.
+        if group.finding == 0 && matches!(finding.why, Why::Macro(_)) {
+            if let Some(site) = self.stop_site(finding.number) {
+                let stopped = self.stopped(finding, site)?;
+                return self.report_found(group, &stopped, site);
+            }
+        }
+        self.report_found(group, finding, self.site(group, finding))
+    }
+
+    /// Answers the report of an error, in the line in which it is written.
+    fn report_found(
+        &self,
+        group: &Group,
+        finding: &Finding,
+        site: Site<'_>,
+    ) -> Result<Report<'f>, AllocError> {
         if let Some(line) = self.stray_local(finding)? {
-            return self.report_local(finding, line);
+            return self.report_local(finding, line, site);
         }
         if let Some(line) = opener_of(self.alloc, &self.text, finding)? {
-            return self.report_opener(finding, line);
+            return self.report_opener(finding, line, site);
         }
-        let site = self.site(group, finding);
         let mut notes = Vec::new(self.alloc);
         self.put_empty(site, &mut notes)?;
         if group.count > 1 {
             notes.push(self.often(group)?)?;
         }
         self.report(self.source, finding, site, notes)
+    }
+
+    /// The number of the line at which the expansion stops, as it is written, if this is the first error.
+    fn stop_line(&self, first: &Finding) -> u32 {
+        match self.stop_site(first.number) {
+            Some(site) => site.line,
+            None => first.number,
+        }
+    }
+
+    /// The error of a line of the expansion if that is in a macro or in a REPT, and cannot be cut into tokens as it is written.
+    fn uncut_in(&self, site: Site<'_>) -> Result<Option<Finding>, AllocError> {
+        if site.calls.is_empty() {
+            return Ok(None);
+        }
+        let text = self.text.line(site.line);
+        Ok(match uncut(self.alloc, text)? {
+            Some(why) => Some(Finding {
+                number: site.reported,
+                text: text.to_vec(self.alloc)?,
+                why,
+                name: None,
+            }),
+            None => None,
+        })
+    }
+
+    /// Appends the reports of lines in macros and REPTs that cannot be cut into tokens, each once, but that of the line with the number
+    /// `stop`, at which the expansion stops.
+    fn put_uncut(
+        &self,
+        stop: u32,
+        most: usize,
+        reports: &mut Vec<Report<'f>>,
+    ) -> Result<(), AllocError> {
+        let Some(trace) = &self.traces.whole else {
+            return Ok(());
+        };
+        let mut is_seen = vec![in self.alloc; false; self.text.len()]?;
+        for (at, line) in trace.lines.iter().enumerate() {
+            let Some(site) = Site::traced(trace, at, line.number) else {
+                return Ok(());
+            };
+            let Some(seen) = is_seen.get_mut((site.line as usize).saturating_sub(1)) else {
+                return Ok(());
+            };
+            if !*seen && site.line != stop {
+                *seen = true;
+                self.put_uncut_in(site, most, reports)?;
+            }
+        }
+        Ok(())
+    }
+
+    /// Appends the report of a line that cannot be cut into tokens, if it is one.
+    fn put_uncut_in(
+        &self,
+        site: Site<'_>,
+        most: usize,
+        reports: &mut Vec<Report<'f>>,
+    ) -> Result<(), AllocError> {
+        let Some(finding) = self.uncut_in(site)? else {
+            return Ok(());
+        };
+        let text = finding.text.as_slice();
+        let site = Site { text, ..site };
+        reports.push(if reports.len() < most {
+            self.report(self.source, &finding, site, Vec::new(self.alloc))?
+        } else {
+            self.counted(&finding)?
+        })?;
+        Ok(())
     }
 
     /// Appends the reports of errors, as long as there are fewer than `most` with all that they say; the others are only counted.
@@ -248,6 +392,40 @@ impl<'s, 'f> Faulty<'s, 'f> {
             }
         }
         Ok(())
+    }
+}
+
+/// What a line of a macro's body is, as far as LOCAL goes.
+#[derive(Clone, Copy)]
+enum Locals {
+    /// A LOCAL with names.
+    Names,
+    /// A LOCAL with something else.
+    Bad,
+    /// Another line.
+    None,
+}
+
+/// What a line of a macro's body is, as far as LOCAL goes.
+fn locals_in(alloc: Global, line: &[u8]) -> Result<Locals, AllocError> {
+    let found = tokens_of(alloc, line)?;
+    let form = form_of(&found);
+    let Head::Block(BlockWord::Local) = form.head else {
+        return Ok(Locals::None);
+    };
+    Ok(if names(alloc, form.rest)?.is_some() {
+        Locals::Names
+    } else {
+        Locals::Bad
+    })
+}
+
+/// Why a line cannot be cut into tokens; None if it can.
+fn uncut(alloc: Global, line: &[u8]) -> Result<Option<Why>, AllocError> {
+    match tokens(alloc, line) {
+        Ok(_) => Ok(None),
+        Err(ScanFault::NoMemory) => Err(AllocError),
+        Err(fault) => Ok(Some(Why::Macro(MacroFault::from(fault)))),
     }
 }
 
@@ -275,8 +453,47 @@ fn begun<'s, 'f>(
         source,
         text: SourceLines::of(alloc, sources.text(source), before)?,
         known: None,
-        trace: None,
+        traces: Traces::none(),
     })
+}
+
+/// Whether the first error is one at which the expansion stops.
+fn does_stop(findings: &[Finding]) -> bool {
+    match findings {
+        [first, ..] => matches!(first.why, Why::Macro(_)),
+        [] => false,
+    }
+}
+
+impl<'s, 'f> Faulty<'s, 'f> {
+    /// Says of each error whether its line is assembled as it is written.
+    fn are_written(&self, findings: &[Finding]) -> Result<Vec<bool>, AllocError> {
+        let mut are_written = Vec::with_capacity(self.alloc, findings.len())?;
+        for finding in findings {
+            are_written.push(self.is_written(finding))?;
+        }
+        Ok(are_written)
+    }
+
+    /// Appends the reports of errors, given where the lines of the expansion are written.
+    fn put_all(
+        &self,
+        findings: &[Finding],
+        are_written: &[bool],
+        most: usize,
+        reports: &mut Vec<Report<'f>>,
+    ) -> Result<(), AllocError> {
+        let key = NameKey::of(self.sources.text(self.source));
+        let trace = self.traces.whole.as_ref();
+        let groups = grouped(self.alloc, key, findings, are_written, trace)?;
+        self.put_groups(findings, &groups, most, reports)?;
+        match findings {
+            [first, ..] if does_stop(findings) => {
+                self.put_uncut(self.stop_line(first), most, reports)
+            }
+            _ => Ok(()),
+        }
+    }
 }
 
 /// Appends the reports of all errors of a source, as long as there are fewer than `most` with all that they say.
@@ -295,16 +512,11 @@ pub(crate) fn put_errors<'f>(
     }
     let mut faulty = begun(alloc, sources, source)?;
     faulty.known = known;
-    let mut is_written = Vec::with_capacity(alloc, findings.len())?;
-    for finding in &findings {
-        is_written.push(faulty.is_written(finding))?;
+    let are_written = faulty.are_written(&findings)?;
+    if does_stop(&findings) || are_written.contains(&false) {
+        faulty.traces = traced(alloc, text)?;
     }
-    if is_written.contains(&false) {
-        faulty.trace = traced(alloc, text)?;
-    }
-    let trace = faulty.trace.as_ref();
-    let groups = grouped(alloc, NameKey::of(text), &findings, &is_written, trace)?;
-    faulty.put_groups(&findings, &groups, most, reports)
+    faulty.put_all(&findings, &are_written, most, reports)
 }
 
 /// Appends the report of one error, about whose source nothing else is known.
@@ -329,7 +541,7 @@ pub(crate) fn put_error<'f>(
         line: fault.line,
         text: &finding.text,
         calls: &[],
-        is_repeated: false,
+        names: None,
     };
     let report = faulty.report(source, &finding, site, Vec::new(alloc))?;
     reports.push(report)?;

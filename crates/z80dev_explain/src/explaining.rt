@@ -7,10 +7,10 @@ ghost use Rattle.zmo_module.specs.Modules.{module_of};
 ghost use Rattle.zmo_module.specs.Rules.{IsModule};
 ghost use Rattle.z80dev_make.specs.Build.{IsBehind};
 ghost use Rattle.z80dev_explain.specs.Explained.{HasWarnings, IsExplained, IsExplainedBehind, warning_count};
-ghost use Rattle.z80dev_explain.specs.Reports.{is_in_line, is_error, is_report_of};
+ghost use Rattle.z80dev_explain.specs.Reports.{is_in_line, is_error, bears_name, is_report_of, link_name};
 
 use crate::errors::{put_error, put_errors};
-use crate::linking::{put_link_errors, put_plain};
+use crate::linking::{name_of, put_link_errors, put_plain};
 use crate::longs::long_jumps_of;
 use crate::mistakes::put_mistakes;
 use crate::printing::{Form, MOST_REPORTS};
@@ -21,8 +21,8 @@ use crate::warned::warnings_of;
 use asm_module::{AsmFault, Lines, Module, assemble_with};
 use std::alloc::{AllocError, Global};
 use z80dev_make::{
-    Front, SourceFile, Told, fault_of_front, front_lines, front_text, sources_behind, texts_behind,
-    why_name,
+    Front, Refusal, SourceFile, Told, fault_of_front, front_lines, front_text, sources_behind,
+    texts_behind, why_name,
 };
 use zlink::{BuildFault, Built, LinkFault, Source, build_with};
 
@@ -63,6 +63,20 @@ fn has(reports: &[Report<'_>], source: usize, fault: AsmFault) -> bool
     reports
         .iter()
         .any(|report| is_report_of(report, source, fault))
+}
+
+/// Whether a report is of an error with this name.
+fn bears_name(report: &Report<'_>, name: &str) -> bool
+    ensures { result ≡ bears_name name.now report.now }
+{
+    report.severity == Severity::Error && report.name.as_bytes() == name.as_bytes()
+}
+
+/// Whether one of the reports is of an error with this name.
+fn has_named(reports: &[Report<'_>], name: &str) -> bool
+    ensures { result ≡ list_any (bears_name name.now) reports.now }
+{
+    reports.iter().any(|report| bears_name(report, name))
 }
 
 /// By what reports are sorted: the source and the line.
@@ -145,13 +159,14 @@ fn link_errors_of<'a>(
     grow: bool,
     fault: &LinkFault,
 ) -> Result<Vec<Report<'a>>, AllocError>
-    ensures { IfOk result (λ reports. 0 < length reports.items) }
+    ensures { IfOk result (λ reports. list_any (bears_name (link_name fault.now)) reports.items ≡ true) }
 {
     let Assembled { modules, lines } = assemble_all(alloc, behind, grow)?;
     let mut reports = Vec::new(alloc);
     put_link_errors(alloc, sources, &modules, &lines, fault, &mut reports)?;
     let mut reports = sorted(reports)?;
-    if reports.is_empty() {
+    let name = name_of(alloc, Refusal::of_link(fault))?;
+    if !has_named(&reports, &name) {
         put_plain(alloc, fault, &mut reports)?;
     }
     Ok(reports)

@@ -46,12 +46,15 @@ fn key_of(alloc: Global, number: u32, first: &[u8], second: &[u8]) -> Result<Vec
     Ok(key)
 }
 
-/// What an error is called: its name, and the name that it is about.
-fn called(alloc: Global, finding: &Finding) -> Result<Vec<u8>, AllocError> {
+/// What an error is called: its name, and the name that it is about. A name of LOCAL is another one in each call, and the same in the body.
+fn called(alloc: Global, finding: &Finding, trace: Option<&Trace>) -> Result<Vec<u8>, AllocError> {
     let mut called = why_name(finding.why).as_bytes().to_vec(alloc)?;
     if let Some(name) = &finding.name {
         called.push(b' ')?;
-        called.extend_from_slice(name)?;
+        match trace {
+            Some(trace) => called.extend_from_slice(&trace.names.renamed(alloc, name)?)?,
+            None => called.extend_from_slice(name)?,
+        }
     }
     Ok(called)
 }
@@ -151,7 +154,7 @@ impl<'t> Grouping<'t> {
         finding: &Finding,
         is_written: bool,
     ) -> Result<(), AllocError> {
-        let called = called(alloc, finding)?;
+        let called = called(alloc, finding, self.trace)?;
         let traced = if is_written {
             None
         } else {

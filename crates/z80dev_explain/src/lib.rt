@@ -4,6 +4,8 @@
 //! [`explain`] answers the reports, [`print_reports`] makes the text of them, and [`explain_sources`] does both.
 #![tactic(auto)]
 
+mod body_names;
+mod cutting;
 mod errors;
 mod explaining;
 mod grouping;
@@ -11,6 +13,7 @@ mod joined;
 mod json;
 mod linking;
 mod longs;
+mod marking;
 mod mistakes;
 mod placing;
 mod printing;

@@ -1,6 +1,9 @@
 //! Reports the errors of the modules of sources together.
 
-ghost use Rattle.std.specs.Prelude.{◌<◌, All, OnOk, length, map};
+ghost use Rattle.std.specs.Prelude.{◌≡◌, [], All, IfOk, OnOk, map, string_bytes, true};
+ghost use Rattle.std.specs.List.{list_any};
+ghost use Rattle.z80dev_make.specs.Faults.Refusals.{program_refusal_text};
+ghost use Rattle.z80dev_explain.specs.Reports.{bears_name, link_name};
 ghost use Rattle.zmo_module.specs.Modules.{module_of};
 ghost use Rattle.zmo_module.specs.Rules.{IsModule};
 
@@ -17,7 +20,9 @@ use z80dev_make::{Refusal, Told};
 use zlink::{JoinFault, LinkFault, Misfit};
 
 /// The names of errors as a refusal prints them.
-pub(crate) fn name_of(alloc: Global, refusal: Refusal) -> Result<String, AllocError> {
+pub(crate) fn name_of(alloc: Global, refusal: Refusal) -> Result<String, AllocError>
+    ensures { IfOk result (λ name. string_bytes name ≡ program_refusal_text [] refusal) }
+{
     let told = Told { path: "", refusal };
     format!(in alloc; "{told}")
 }
@@ -105,6 +110,75 @@ impl<'n, 's, 'f> Named<'n, 's, 'f> {
             None => 1,
         }
     }
+
+    /// Whether the EXTRN of a name is in a shared file, so that each source has it.
+    fn is_shared(&self, source: usize, name: &[u8]) -> bool {
+        self.external(source, name) as usize <= self.sources.before
+    }
+}
+
+/// The first of the sources that have an external of a shared file, and how many sources have it.
+#[derive(Clone, Copy)]
+struct Concerned {
+    first: usize,
+    count: usize,
+}
+
+/// The externals of shared files by their names.
+#[derive(Drop)]
+struct SharedExternals<'a> {
+    names: IndexMap<&'a [u8], Concerned, NameKey>,
+}
+
+impl<'a> SharedExternals<'a> {
+    /// Adds those of a module, which has this number.
+    fn add(
+        &mut self,
+        named: Named<'_, '_, '_>,
+        number: usize,
+        module: &'a Module,
+    ) -> Result<(), AllocError> {
+        for name in &module.externals {
+            let name = name.as_slice();
+            if named.is_shared(number, name) {
+                let (first, count) = match self.names.get(name) {
+                    Some(known) => (known.first, known.count),
+                    None => (number, 0),
+                };
+                let count = count.saturating_add(1);
+                self.names.insert(name, Concerned { first, count })?;
+            }
+        }
+        Ok(())
+    }
+
+    /// How many sources the error of an external of this source concerns; None if it is one of an earlier source too.
+    fn concerned(&self, number: usize, name: &[u8]) -> Option<usize> {
+        match self.names.get(name) {
+            Some(known) if known.first != number => None,
+            Some(known) => Some(known.count),
+            None => Some(1),
+        }
+    }
+}
+
+/// The externals of shared files that modules have.
+fn shared_externals<'a>(
+    alloc: Global,
+    named: Named<'_, '_, '_>,
+    modules: &'a [Module],
+) -> Result<SharedExternals<'a>, AllocError> {
+    let mut mixer = KeyMixer::new();
+    for module in modules {
+        mixer.mix_all(&module.externals);
+    }
+    let mut shared = SharedExternals {
+        names: IndexMap::with_hasher(alloc, mixer.key()),
+    };
+    for (number, module) in modules.iter().enumerate() {
+        shared.add(named, number, module)?;
+    }
+    Ok(shared)
 }
 
 /// Answers the report of a label that is public in two modules.
@@ -161,35 +235,39 @@ impl<'a> Publics<'a> {
         Ok(())
     }
 
-    /// Reports the externals of a module that are public nowhere.
+    /// Reports the externals of a module that are public nowhere; one of a shared file only for the first source.
     fn put_unresolved<'f>(
         &self,
         alloc: Global,
         named: Named<'_, '_, 'f>,
+        shared: &SharedExternals<'_>,
         number: usize,
         module: &Module,
         reports: &mut Vec<Report<'f>>,
     ) -> Result<(), AllocError> {
         for (external, name) in module.externals.iter().enumerate() {
             if self.names.get(name.as_slice()).is_none() {
-                reports.push(unresolved(alloc, named, number, external, name)?)?;
+                if let Some(count) = shared.concerned(number, name) {
+                    reports.push(unresolved(alloc, named, number, external, name, count)?)?;
+                }
             }
         }
         Ok(())
     }
 }
 
-/// Answers the report of an external that is public nowhere.
+/// Answers the report of an external that is public nowhere, which this number of sources have.
 fn unresolved<'a>(
     alloc: Global,
     named: Named<'_, '_, 'a>,
     module: usize,
     external: usize,
     name: &[u8],
+    count: usize,
 ) -> Result<Report<'a>, AllocError> {
     let shown = shown(name);
     let line = named.external(module, name);
-    error_at(
+    let mut report = error_at(
         alloc,
         Some(named.sources.named(alloc, module, line, name)?),
         format!(in alloc; "`{shown}` is public in no source")?,
@@ -197,7 +275,13 @@ fn unresolved<'a>(
         Some(Note::Help(format!(in alloc;
             "write `PUBLIC {shown}` in the source that has the label, and give that source too"
         )?)),
-    )
+    )?;
+    if count > 1 {
+        report.notes.push(Note::Note(format!(in alloc;
+            "this EXTRN is in a shared file, and concerns {count} sources"
+        )?))?;
+    }
+    Ok(report)
 }
 
 /// Reports all names that are public twice, and all externals that are public nowhere.
@@ -221,8 +305,9 @@ fn put_names<'a>(
     for (number, module) in modules.iter().enumerate() {
         publics.add(alloc, named, number, module, reports)?;
     }
+    let shared = shared_externals(alloc, named, modules)?;
     for (number, module) in modules.iter().enumerate() {
-        publics.put_unresolved(alloc, named, number, module, reports)?;
+        publics.put_unresolved(alloc, named, &shared, number, module, reports)?;
     }
     Ok(())
 }
@@ -301,15 +386,29 @@ pub(crate) fn put_link_errors<'a>(
     Ok(())
 }
 
+/// Answers the report of an error of modules that says this, and has no place.
+fn plain<'a>(alloc: Global, fault: &LinkFault, text: String) -> Result<Report<'a>, AllocError>
+    ensures { IfOk result (λ r. bears_name (link_name fault.now) r ≡ true) }
+{
+    Ok(Report {
+        severity: Severity::Error,
+        at: None,
+        text,
+        name: name_of(alloc, Refusal::of_link(fault))?,
+        notes: Vec::new(alloc),
+    })
+}
+
 /// Appends the report of an error of modules, about which nothing else is known.
 pub(crate) fn put_plain<'a>(
     alloc: Global,
     fault: &LinkFault,
     reports: &mut Vec<Report<'a>>,
 ) -> Result<(), AllocError>
-    ensures { OnOk result (0 < length reports.new.items) }
+    ensures { OnOk result (list_any (bears_name (link_name fault.now)) reports.new.items ≡ true) }
 {
     let text = String::from_str(alloc, "the sources cannot be linked")?;
-    reports.push(error_at(alloc, None, text, Refusal::of_link(fault), None)?)?;
+    let report = plain(alloc, fault, text)?;
+    reports.push(report)?;
     Ok(())
 }

@@ -84,7 +84,7 @@ impl<'b, 's, 'f> Named<'b, 's, 'f> {
         let site = self.site(jump.statement, source, line);
         let target = self.name(alloc, site.text, jump.target)?;
         let at = Some(self.sources.mark(alloc, source, site, target)?);
-        let name = shown(alloc, target)?;
+        let name = site.own_text(alloc, &shown(alloc, target)?)?;
         let reach = jump.text(alloc, &name)?;
         let mut notes = Vec::new(alloc);
         notes.push(self.reason(alloc, jump)?)?;

@@ -2,9 +2,11 @@
 
 ghost use Rattle.std.specs.Prelude.{◌≡◌, IfOk};
 
+use crate::body_names::BodyNames;
+use crate::cutting::tokens_of;
 use crate::report::Where;
 use crate::sources::Sources;
-use crate::written::{Written, tokens_of};
+use crate::written::Trace;
 use asm_line::{Head, form_of};
 use error_messages::{Note, Place, place_of_name, shown};
 use std::alloc::{AllocError, Global};
@@ -18,10 +20,10 @@ pub(crate) struct Site<'e> {
     pub(crate) line: u32,
     /// The line as it is assembled, with the arguments of a call in place of its parameters.
     pub(crate) text: &'e [u8],
-    /// The lines of the calls that lead to it, the outermost first.
+    /// The lines of the calls and REPTs that lead to it, the outermost first.
     pub(crate) calls: &'e [u32],
-    /// Whether it is in a REPT that no macro has in it.
-    pub(crate) is_repeated: bool,
+    /// The names of LOCAL lines in the bodies of macros, if they are known.
+    pub(crate) names: Option<&'e BodyNames>,
 }
 
 impl<'e> Site<'e> {
@@ -32,20 +34,62 @@ impl<'e> Site<'e> {
             line,
             text,
             calls: &[],
-            is_repeated: false,
+            names: None,
         }
     }
 
-    /// A line that is written elsewhere.
-    pub(crate) fn traced(reported: u32, text: &'e [u8], written: &'e Written) -> Site<'e> {
-        let calls = written.calls.as_slice();
-        Site {
+    /// This line of an expansion, counted from 0, if building reports it by this line.
+    pub(crate) fn traced(trace: &'e Trace, at: usize, reported: u32) -> Option<Site<'e>> {
+        let line = trace.lines.get(at)?;
+        let written = trace.written.get(at)?;
+        if line.number != reported {
+            return None;
+        }
+        Some(Site {
             reported,
             line: written.line,
-            text,
-            calls,
-            is_repeated: calls.is_empty() && written.line != reported,
+            text: &line.text,
+            calls: &written.calls,
+            names: Some(&trace.names),
+        })
+    }
+
+    /// Bytes of the line, with the names of LOCAL lines as the bodies of macros have them.
+    fn own_bytes(&self, alloc: Global, bytes: &[u8]) -> Result<Vec<u8>, AllocError> {
+        match self.names {
+            Some(names) => names.renamed(alloc, bytes),
+            None => bytes.to_vec(alloc),
         }
+    }
+
+    /// A text about the line, with the names of LOCAL lines as the bodies of macros have them.
+    pub(crate) fn own_text(&self, alloc: Global, text: &str) -> Result<String, AllocError> {
+        let renamed = self.own_bytes(alloc, text.as_bytes())?;
+        String::from_str(alloc, str::from_utf8(&renamed).unwrap_or(text))
+    }
+
+    /// Notes about the line, with the names of LOCAL lines as the bodies of macros have them.
+    pub(crate) fn own_notes(&self, alloc: Global, notes: &[Note]) -> Result<Vec<Note>, AllocError> {
+        let mut own = Vec::with_capacity(alloc, notes.len())?;
+        for note in notes {
+            own.push(match note {
+                Note::Help(text) => Note::Help(self.own_text(alloc, text)?),
+                Note::Note(text) => Note::Note(self.own_text(alloc, text)?),
+            })?;
+        }
+        Ok(own)
+    }
+
+    /// The line, with the names of LOCAL lines as the bodies of macros have them, and in it the part that is this part of the line.
+    fn own_part(&self, alloc: Global, place: Place) -> Result<(Vec<u8>, Place), AllocError> {
+        let (before, rest) = self.text.split_at(place.at.min(self.text.len()));
+        let (part, after) = rest.split_at(place.len.min(rest.len()));
+        let mut text = self.own_bytes(alloc, before)?;
+        let at = text.len();
+        text.extend_from_slice(&self.own_bytes(alloc, part)?)?;
+        let len = text.len().saturating_sub(at);
+        text.extend_from_slice(&self.own_bytes(alloc, after)?)?;
+        Ok((text, Place { at, len }))
     }
 }
 
@@ -85,7 +129,8 @@ impl<'s, 'f> Sources<'s, 'f> {
     ) -> Result<Where<'f>, AllocError>
         ensures { IfOk result (λ w. (w.source ≡ source) × (w.reported ≡ site.entry.reported)) }
     {
-        let at = written_at(self.line(source, site.line), site.text, place.at);
+        let (text, place) = site.own_part(alloc, place)?;
+        let at = written_at(self.line(source, site.line), &text, place.at);
         let own = self.located(source, site.line);
         Ok(Where {
             path: own.path,
@@ -93,7 +138,7 @@ impl<'s, 'f> Sources<'s, 'f> {
             reported: site.reported,
             line: own.line,
             column: at.saturating_add(1),
-            text: site.text.to_vec(alloc)?,
+            text,
             place,
         })
     }
@@ -110,12 +155,13 @@ impl<'s, 'f> Sources<'s, 'f> {
         self.place(alloc, source, site, place)
     }
 
-    /// Appends a note about the call or the REPT in a line.
+    /// Appends a note about the call or the REPT in a line, which leads to itself this number of times.
     fn put_call(
         &self,
         alloc: Global,
         source: usize,
         line: u32,
+        times: usize,
         notes: &mut Vec<Note>,
     ) -> Result<(), AllocError> {
         let text = self.line(source, line);
@@ -126,7 +172,11 @@ impl<'s, 'f> Sources<'s, 'f> {
             Head::Word(word) => {
                 let column = place_of_name(alloc, text, word)?.at.saturating_add(1);
                 let name = shown(alloc, word)?;
-                format!(in alloc; "in the call of `{name}` at {path}:{number}:{column}")?
+                let calls = match times {
+                    1 => String::from_str(alloc, "the call")?,
+                    _ => format!(in alloc; "{times} nested calls")?,
+                };
+                format!(in alloc; "in {calls} of `{name}` at {path}:{number}:{column}")?
             }
             _ => {
                 let column = place_of_name(alloc, text, b"REPT")?.at.saturating_add(1);
@@ -137,7 +187,7 @@ impl<'s, 'f> Sources<'s, 'f> {
         Ok(())
     }
 
-    /// Appends notes about the calls that lead to a line, the outermost first, or about the REPT that it is in.
+    /// Appends notes about the calls and REPTs that lead to a line, the outermost first.
     pub(crate) fn put_calls(
         &self,
         alloc: Global,
@@ -145,11 +195,14 @@ impl<'s, 'f> Sources<'s, 'f> {
         site: Site<'_>,
         notes: &mut Vec<Note>,
     ) -> Result<(), AllocError> {
-        if site.is_repeated {
-            return self.put_call(alloc, source, site.reported, notes);
-        }
-        for line in site.calls {
-            self.put_call(alloc, source, *line, notes)?;
+        let mut times = 1usize;
+        for (at, line) in site.calls.iter().enumerate() {
+            if site.calls.get(at.saturating_add(1)) == Some(line) {
+                times = times.saturating_add(1);
+            } else {
+                self.put_call(alloc, source, *line, times, notes)?;
+                times = 1;
+            }
         }
         Ok(())
     }

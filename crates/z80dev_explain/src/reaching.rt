@@ -166,8 +166,9 @@ impl<'p, 'f> Placed<'p, 'f> {
         target: &[u8],
     ) -> Result<Report<'f>, AllocError> {
         let at = self.sources.mark(alloc, number, site, target)?;
-        let help = Note::Help(far.help(alloc, target)?);
-        let text = far.text(alloc, target)?;
+        let name = site.own_text(alloc, shown(target))?;
+        let help = Note::Help(far.help(alloc, &name)?);
+        let text = far.text(alloc, &name)?;
         let refusal = Refusal::NoFit(Misfit::Range(statement));
         let mut report = error_at(alloc, Some(at), text, refusal, Some(help))?;
         self.sources
@@ -232,9 +233,8 @@ fn condition_text(condition: Option<ShortCond>) -> &'static str {
 }
 
 impl Far {
-    /// What is wrong.
-    fn text(&self, alloc: Global, target: &[u8]) -> Result<String, AllocError> {
-        let name = shown(target);
+    /// What is wrong with a jump to the label of this name.
+    fn text(&self, alloc: Global, name: &str) -> Result<String, AllocError> {
         let word = match self.branch {
             Branch::Relative(_) => "JR",
             Branch::CountDown => "DJNZ",
@@ -253,8 +253,7 @@ impl Far {
     }
 
     /// What to write instead.
-    fn help(&self, alloc: Global, target: &[u8]) -> Result<String, AllocError> {
-        let name = shown(target);
+    fn help(&self, alloc: Global, name: &str) -> Result<String, AllocError> {
         match self.branch {
             Branch::Relative(condition) => {
                 let condition = condition_text(condition);

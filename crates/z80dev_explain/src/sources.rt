@@ -1,7 +1,7 @@
 //! Sources after a front: their texts, and their lines by the files that they are in.
 
+use crate::cutting::tokens_of;
 use crate::report::Where;
-use crate::written::tokens_of;
 use asm_macro::source_part;
 use asm_module::Module;
 use asm_scan::Token;

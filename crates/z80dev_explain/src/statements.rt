@@ -1,8 +1,9 @@
 //! Finds the lines in which the statements of a program are written, for what is said about its jumps.
 
+use crate::cutting::tokens_of;
 use crate::placing::Site;
 use crate::sources::Sources;
-use crate::written::{Trace, tokens_of, traced};
+use crate::written::{Trace, Traces, traced};
 use asm_spell::{Body, Line, StmtFault, statement};
 use std::alloc::{AllocError, Global};
 
@@ -47,7 +48,8 @@ fn is_statement(alloc: Global, text: &[u8]) -> Result<bool, AllocError> {
 
 /// Finds the statements of a source; None if it is not known where its lines are written.
 fn statements_of(alloc: Global, text: &[u8]) -> Result<Option<Statements>, AllocError> {
-    let Some(trace) = traced(alloc, text)? else {
+    let Traces { stop: _, whole } = traced(alloc, text)?;
+    let Some(trace) = whole else {
         return Ok(None);
     };
     let mut lines = Vec::new(alloc);
@@ -63,13 +65,7 @@ impl Statements {
     /// Where a statement is written, if building reports it by this line.
     fn site(&self, statement: usize, reported: u32) -> Option<Site<'_>> {
         let at = *self.lines.get(statement)?;
-        let line = self.trace.lines.get(at)?;
-        let written = self.trace.written.get(at)?;
-        if line.number == reported {
-            Some(Site::traced(reported, &line.text, written))
-        } else {
-            None
-        }
+        Site::traced(&self.trace, at, reported)
     }
 }
 

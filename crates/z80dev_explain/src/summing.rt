@@ -2,7 +2,7 @@
 
 ghost use Rattle.std.specs.Prelude.{◌≡◌, IfOk, None, string_bytes};
 ghost use Rattle.std.specs.Option.{option_map};
-ghost use Rattle.z80dev_explain.specs.Explanation.{IsExplanation, IsFine};
+ghost use Rattle.z80dev_explain.specs.Explanation.{count_text, IsExplanation, IsFine, summary_of};
 
 use crate::explaining::{Asked, explain};
 use crate::printing::print_reports;
@@ -20,7 +20,9 @@ pub struct Explanation {
 }
 
 /// Answers how many there are of something.
-fn counted(alloc: Global, count: usize, what: &str) -> Result<String, AllocError> {
+fn counted(alloc: Global, count: usize, what: &str) -> Result<String, AllocError>
+    ensures { IfOk result (λ text. string_bytes text ≡ count_text count what.now) }
+{
     if count == 1 {
         format!(in alloc; "1 {what}")
     } else {
@@ -34,6 +36,7 @@ fn summary(
     has_program: bool,
     reports: &[Report<'_>],
 ) -> Result<Option<String>, AllocError>
+    ensures sum { IfOk result (λ summary. option_map (λ s. string_bytes s) summary ≡ summary_of has_program reports.now) }
     ensures fine { IfOk result (λ summary. summary ≡ None → IsFine has_program reports.now) }
     ensures wrong { IfOk result (λ summary. IsFine has_program reports.now → summary ≡ None) }
 {

@@ -70,7 +70,7 @@ impl<'w, 's, 'f> Warned<'w, 's, 'f> {
         Ok(Report {
             severity: Severity::Warning,
             at: Some(self.sources.mark(alloc, warning.source, site, b"")?),
-            text: String::from_str(alloc, shown)?,
+            text: site.own_text(alloc, shown)?,
             name: String::new(alloc),
             notes,
         })

@@ -1,160 +1,105 @@
 //! Finds the lines in which the lines of an expansion are written.
 //!
-//! The expander tells of each line only the outermost call. So the source is expanded once more, with a comment at the end of each line that
-//! has the line's number, and a comment line before and after each call. The expander keeps comments as they are. The lines without these
-//! comments have to be those of the first expansion; if they are not, nothing is answered.
+//! The expander tells of each line only the outermost call. So the source is expanded once more, with comments that say where each line is
+//! from, as `marking` adds them. The lines without these comments have to be those of the first expansion; if they are not, nothing is
+//! answered. If the expansion stops, the line at which it stops counts as the last one.
 
-use asm_line::{Head, form_of};
-use asm_macro::{Expanded, ExpandedLine, MacroFault, expand, source_part};
-use asm_scan::{ScanFault, Token, tokens};
+use crate::body_names::BodyNames;
+use crate::marking::{Mark, local_in, marked, without_mark};
+use asm_macro::{ExpandedLine, Expander, MOST_LINES, MacroFault, source_part};
 use asm_text::Lines;
-use common::{KeyMixer, NameKey};
-use indexmap::IndexMap;
+use common::NameKey;
 use source_errors::mended_text;
 use std::alloc::{AllocError, Global};
 
 /// Where a line of an expansion is written.
-#[derive(Debug, Drop)]
+#[derive(Drop)]
 pub(crate) struct Written {
     /// The number of its line in the source. In a macro it is a line of the body.
     pub(crate) line: u32,
-    /// The lines of the calls that lead to it, the outermost first.
+    /// The lines of the calls and REPTs that lead to it, the outermost first.
     pub(crate) calls: Vec<u32>,
 }
 
 /// The lines of an expansion, and where each is written.
-#[derive(Debug, Drop)]
+#[derive(Drop)]
 pub(crate) struct Trace {
     pub(crate) lines: Vec<ExpandedLine>,
     pub(crate) written: Vec<Written>,
+    /// Whether the expansion stops, at the last of the lines.
+    pub(crate) stops: bool,
+    /// The names of the LOCAL lines.
+    pub(crate) names: BodyNames,
 }
 
-/// The names of the macros of a source, in upper case.
-type MacroNames = IndexMap<Vec<u8>, (), NameKey>;
-
-/// A comment that was added to a source.
-#[derive(Clone, Copy)]
-enum Mark {
-    /// At the end of the line with this number.
-    Line(u32),
-    /// Before the call in this line.
-    Opens(u32),
-    /// After it.
-    Closes(u32),
+/// What is known of where the lines of a source are written.
+#[derive(Drop)]
+pub(crate) struct Traces {
+    /// The lines up to the one at which the expansion stops, if it stops.
+    pub(crate) stop: Option<Trace>,
+    /// All lines; if the expansion stops, those of the source in which lines that cannot be cut into tokens are mended.
+    pub(crate) whole: Option<Trace>,
 }
 
-/// A line without the comment that was added, and the comment.
-#[derive(Clone, Copy)]
-struct MarkedLine<'l> {
-    text: &'l [u8],
-    mark: Mark,
-}
-
-/// The tokens of a line; none if it cannot be cut into tokens.
-pub(crate) fn tokens_of(alloc: Global, line: &[u8]) -> Result<Vec<Token<'_>>, AllocError> {
-    match tokens(alloc, line) {
-        Ok(found) => Ok(found),
-        Err(ScanFault::NoMemory) => Err(AllocError),
-        Err(_) => Ok(Vec::new(alloc)),
-    }
-}
-
-/// The macro that a line defines, in upper case.
-pub(crate) fn macro_in(alloc: Global, line: &[u8]) -> Result<Option<Vec<u8>>, AllocError> {
-    let found = tokens_of(alloc, line)?;
-    match form_of(&found).head {
-        Head::Macro(name) => Ok(Some(name.to_ascii_uppercase(alloc)?)),
-        _ => Ok(None),
-    }
-}
-
-/// The names of the macros that lines define.
-fn macro_names(alloc: Global, lines: &Lines<'_>) -> Result<MacroNames, AllocError> {
-    let mut mixer = KeyMixer::new();
-    for at in 0..lines.len() {
-        mixer.mix(lines.line(at));
-    }
-    let mut names = IndexMap::with_hasher(alloc, mixer.key());
-    for at in 0..lines.len() {
-        if let Some(name) = macro_in(alloc, lines.line(at))? {
-            names.insert(name, ())?;
+impl Traces {
+    /// Nothing is known.
+    pub(crate) fn none() -> Traces {
+        Traces {
+            stop: None,
+            whole: None,
         }
     }
-    Ok(names)
 }
 
-/// Whether a line calls one of these macros.
-fn is_call(alloc: Global, names: &MacroNames, line: &[u8]) -> Result<bool, AllocError> {
-    if names.is_empty() {
-        return Ok(false);
-    }
-    let found = tokens_of(alloc, line)?;
-    match form_of(&found).head {
-        Head::Word(word) => {
-            let name = word.to_ascii_uppercase(alloc)?;
-            Ok(names.get(name.as_slice()).is_some())
-        }
-        _ => Ok(false),
-    }
+/// The lines of an expansion. If it stops, the last one is the line at which it stops.
+#[derive(Drop)]
+struct Reached {
+    lines: Vec<ExpandedLine>,
+    stops: bool,
 }
 
-/// Appends a comment, with the end of its line.
-fn put_mark(alloc: Global, text: &mut Vec<u8>, mark: Mark) -> Result<(), AllocError> {
-    let comment = match mark {
-        Mark::Line(number) => format!(in alloc; " ;={number}\n")?,
-        Mark::Opens(number) => format!(in alloc; ";>{number}\n")?,
-        Mark::Closes(number) => format!(in alloc; ";<{number}\n")?,
+/// Goes on to the next line of an expansion and appends it. Answers None after the last one, and otherwise whether the expansion stops there.
+fn put_next(
+    alloc: Global,
+    expander: &mut Expander<'_>,
+    lines: &mut Vec<ExpandedLine>,
+) -> Result<Option<bool>, AllocError> {
+    let stop = match expander.advance() {
+        Ok(true) => None,
+        Ok(false) => return Ok(None),
+        Err((_, MacroFault::NoMemory)) => return Err(AllocError),
+        Err((number, _)) => Some(number),
     };
-    text.extend_from_slice(comment.as_bytes())
+    // The expander has written the line at which it stops to the same place as those that it gives. What is found there counts only if the
+    // expansion with comments has it too.
+    let line = expander.line();
+    lines.push(ExpandedLine {
+        number: stop.unwrap_or(line.number),
+        text: line.text.to_vec(alloc)?,
+    })?;
+    Ok(Some(stop.is_some()))
 }
 
-/// Answers the source with these comments.
-fn marked(alloc: Global, lines: &Lines<'_>) -> Result<Vec<u8>, AllocError> {
-    let names = macro_names(alloc, lines)?;
-    let mut text = Vec::new(alloc);
-    let mut number = 0u32;
-    for at in 0..lines.len() {
-        let line = lines.line(at);
-        number = number.saturating_add(1);
-        let is_call = is_call(alloc, &names, line)?;
-        if is_call {
-            put_mark(alloc, &mut text, Mark::Opens(number))?;
-        }
-        text.extend_from_slice(line)?;
-        put_mark(alloc, &mut text, Mark::Line(number))?;
-        if is_call {
-            put_mark(alloc, &mut text, Mark::Closes(number))?;
+/// The lines of the expansion of a text.
+fn reached_lines(alloc: Global, text: &[u8]) -> Result<Reached, AllocError> {
+    let mut expander = Expander::new(alloc, text);
+    let mut lines = Vec::new(alloc);
+    for _ in 0..=MOST_LINES {
+        match put_next(alloc, &mut expander, &mut lines)? {
+            None => {
+                return Ok(Reached {
+                    lines,
+                    stops: false,
+                });
+            }
+            Some(true) => return Ok(Reached { lines, stops: true }),
+            Some(false) => (),
         }
     }
-    Ok(text)
-}
-
-/// The number that decimal digits are.
-fn number_of(digits: &[u8]) -> u32 {
-    let mut number = 0u32;
-    for digit in digits {
-        let value = u32::from(digit.saturating_sub(b'0'));
-        number = number.saturating_mul(10).saturating_add(value);
-    }
-    number
-}
-
-/// Cuts the comment that was added off a line.
-fn without_mark(line: &[u8]) -> Option<MarkedLine<'_>> {
-    let digits = line
-        .iter()
-        .rev()
-        .take_while(|byte| byte.is_ascii_digit())
-        .count();
-    let (front, digits) = line.split_at(line.len().saturating_sub(digits));
-    let number = number_of(digits);
-    let (text, mark): (&[u8], Mark) = match front {
-        [text @ .., b' ', b';', b'='] => (text, Mark::Line(number)),
-        [b';', b'>'] => (&[], Mark::Opens(number)),
-        [b';', b'<'] => (&[], Mark::Closes(number)),
-        _ => return None,
-    };
-    Some(MarkedLine { text, mark })
+    Ok(Reached {
+        lines,
+        stops: false,
+    })
 }
 
 /// The calls that lead to a line. A line that was marked as a call and is a line of the expansion itself calls nothing.
@@ -165,107 +110,152 @@ fn calls_to(alloc: Global, open: &[u32], line: u32) -> Result<Vec<u32>, AllocErr
     }
 }
 
-/// Forgets the call in this line, and those that were opened after it.
-fn close(open: &mut Vec<u32>, line: u32) {
-    for _ in 0..open.len() {
-        if open.pop() == Some(line) {
+/// What was read of the lines of the expansion with comments.
+#[derive(Drop)]
+struct Reading {
+    alloc: Global,
+    /// The lines of the calls and REPTs that are open, the outermost first.
+    open: Vec<u32>,
+    written: Vec<Written>,
+    names: BodyNames,
+}
+
+impl Reading {
+    /// Forgets the call or the REPT in this line, and those that were opened after it.
+    fn close(&mut self, line: u32) {
+        if !self.open.contains(&line) {
             return;
         }
-    }
-}
-
-/// Appends where the next line is written, if it is the next one of the plain expansion. Answers whether it is.
-fn put_written(
-    alloc: Global,
-    text: &[u8],
-    line: u32,
-    plain: &[ExpandedLine],
-    open: &[u32],
-    written: &mut Vec<Written>,
-) -> Result<bool, AllocError> {
-    let is_same = match plain.get(written.len()) {
-        Some(same) => same.text.as_slice() == text,
-        None => false,
-    };
-    if is_same {
-        let calls = calls_to(alloc, open, line)?;
-        written.push(Written { line, calls })?;
-    }
-    Ok(is_same)
-}
-
-/// Reads a line of the expansion with comments. Answers whether it is one that the plain expansion has, or an added one.
-fn read_mark(
-    alloc: Global,
-    line: &[u8],
-    plain: &[ExpandedLine],
-    open: &mut Vec<u32>,
-    written: &mut Vec<Written>,
-) -> Result<bool, AllocError> {
-    let Some(marked) = without_mark(line) else {
-        return Ok(false);
-    };
-    match marked.mark {
-        Mark::Opens(number) => open.push(number)?,
-        Mark::Closes(number) => close(open, number),
-        Mark::Line(number) => {
-            return put_written(alloc, marked.text, number, plain, open, written);
+        for _ in 0..self.open.len() {
+            if self.open.pop() == Some(line) {
+                return;
+            }
         }
     }
-    Ok(true)
+
+    /// Appends where the next line is written, if it is the next one of the plain expansion. Answers whether it is.
+    fn put(&mut self, plain: &[ExpandedLine], text: &[u8], line: u32) -> Result<bool, AllocError> {
+        let is_same = match plain.get(self.written.len()) {
+            Some(same) => same.text.as_slice() == text,
+            None => false,
+        };
+        if is_same {
+            let calls = calls_to(self.alloc, &self.open, line)?;
+            self.written.push(Written { line, calls })?;
+        }
+        Ok(is_same)
+    }
+
+    /// Reads a line without a comment: the label before a call, or a line that was added after LOCAL lines. Answers whether it is one of these.
+    fn read_other(&mut self, plain: &[ExpandedLine], line: &[u8]) -> Result<bool, AllocError> {
+        if let Some(local) = local_in(line) {
+            self.names.add(self.alloc, local.made, local.own)?;
+            return Ok(true);
+        }
+        match self.open.last().copied() {
+            Some(call) => self.put(plain, line, call),
+            None => Ok(false),
+        }
+    }
+
+    /// Reads a line. Answers whether it is one that the plain expansion has, or an added one.
+    fn read(&mut self, plain: &[ExpandedLine], line: &[u8]) -> Result<bool, AllocError> {
+        let Some(marked) = without_mark(line) else {
+            return self.read_other(plain, line);
+        };
+        match marked.mark {
+            Mark::Opens(number) => self.open.push(number)?,
+            Mark::Closes(number) => self.close(number),
+            Mark::Line(number) => return self.put(plain, marked.text, number),
+        }
+        Ok(true)
+    }
 }
 
-/// Reads the lines of the expansion with comments; None if they are not the lines of the plain one.
+/// Reads the lines of the expansion with comments; None if they are not those of the plain one.
 fn read_marks(
     alloc: Global,
+    key: NameKey,
     with_marks: &[ExpandedLine],
     plain: &[ExpandedLine],
-) -> Result<Option<Vec<Written>>, AllocError> {
-    let mut open = Vec::new(alloc);
-    let mut written = Vec::new(alloc);
+) -> Result<Option<Reading>, AllocError> {
+    let mut reading = Reading {
+        alloc,
+        open: Vec::new(alloc),
+        written: Vec::new(alloc),
+        names: BodyNames::new(alloc, key),
+    };
     for line in with_marks {
-        if !read_mark(alloc, &line.text, plain, &mut open, &mut written)? {
+        if !reading.read(plain, &line.text)? {
             return Ok(None);
         }
     }
-    if written.len() == plain.len() {
-        Ok(Some(written))
+    if reading.written.len() == plain.len() {
+        Ok(Some(reading))
     } else {
         Ok(None)
     }
 }
 
-/// The lines of an expansion; None if it stops.
-fn expanded(alloc: Global, text: &[u8]) -> Result<Option<Expanded>, AllocError> {
-    match expand(alloc, text) {
-        Ok(expanded) => Ok(Some(expanded)),
-        Err((_, MacroFault::NoMemory)) => Err(AllocError),
-        Err(_) => Ok(None),
+/// Whether the last line has no comment, as the label has before a call at which the expansion stops. Such a line does not tell where it
+/// stops.
+fn ends_unmarked(lines: &[ExpandedLine]) -> bool {
+    match lines.last() {
+        Some(last) => without_mark(&last.text).is_none(),
+        None => true,
     }
 }
 
-/// The lines of the expansion of a text, and where each is written; None if the expansion stops.
+/// The lines of the expansion of a text, and where each is written; None if that is not known.
 fn trace_of(alloc: Global, text: &[u8]) -> Result<Option<Trace>, AllocError> {
-    let Some(plain) = expanded(alloc, text)? else {
-        return Ok(None);
-    };
     let lines = Lines::of(alloc, source_part(text))?;
-    let Some(with_marks) = expanded(alloc, &marked(alloc, &lines)?)? else {
+    let plain = reached_lines(alloc, text)?;
+    let with_marks = reached_lines(alloc, &marked(alloc, &lines)?)?;
+    if with_marks.stops != plain.stops || plain.stops && ends_unmarked(&with_marks.lines) {
+        return Ok(None);
+    }
+    let key = NameKey::of(text);
+    let Some(reading) = read_marks(alloc, key, &with_marks.lines, &plain.lines)? else {
         return Ok(None);
     };
-    let found = read_marks(alloc, &with_marks.lines, &plain.lines)?;
-    Ok(found.map(|written| Trace {
-        lines: plain.lines,
+    let Reading {
+        alloc: _,
+        open: _,
         written,
+        names,
+    } = reading;
+    let Reached { lines, stops } = plain;
+    Ok(Some(Trace {
+        lines,
+        written,
+        stops,
+        names,
     }))
 }
 
-/// Answers the lines of the expansion of a source, and where each is written; if the expansion stops, those of the source in which lines that
-/// cannot be cut into tokens are mended; None if that stops too.
-pub(crate) fn traced(alloc: Global, text: &[u8]) -> Result<Option<Trace>, AllocError> {
-    if let Some(found) = trace_of(alloc, text)? {
-        return Ok(Some(found));
+/// Whether there is a trace, of an expansion that stops.
+fn does_stop(trace: Option<&Trace>) -> bool {
+    match trace {
+        Some(trace) => trace.stops,
+        None => false,
+    }
+}
+
+/// Finds where the lines of a source are written.
+pub(crate) fn traced(alloc: Global, text: &[u8]) -> Result<Traces, AllocError> {
+    let first = trace_of(alloc, text)?;
+    if first.is_some() && !does_stop(first.as_ref()) {
+        return Ok(Traces {
+            stop: None,
+            whole: first,
+        });
     }
     let lines = Lines::of(alloc, source_part(text))?;
-    trace_of(alloc, &mended_text(alloc, &lines)?)
+    let mended = trace_of(alloc, &mended_text(alloc, &lines)?)?;
+    let whole = if does_stop(mended.as_ref()) {
+        None
+    } else {
+        mended
+    };
+    Ok(Traces { stop: first, whole })
 }
