@@ -9,11 +9,11 @@ use Rattle.cpm_run.specs.declared.arriving.Arrival.{Arrival}
 use Rattle.cpm_run.specs.declared.arriving.PlayEnd.{PlayEnd}
 use Rattle.cpm_run.specs.declared.arriving.PlayEnd.TheVariants as play
 use Rattle.cpm_run.specs.declared.playing.state.Playing.{Playing}
-use Rattle.cpm_run.specs.Play.{Follows, IsInOrder, PlayState, PlaysOn, arrived}
+use Rattle.cpm_run.specs.Play.{FollowsRecord, IsInOrder, PlayState, PlaysOn, arrived}
 use Rattle.cpm_run.specs.Private.Playing.{IsBroken, Repeats, RepeatsTo, Stands, state_of, taken}
 use Rattle.cpm_run.specs.Seat.{Seat}
 
--- what stands for a byte that is not in the record
+-- the default for a place outside of the record
 abbrev pub no_arrival : Arrival
 no_arrival = record { turn = 0; byte = 0 }
 
@@ -27,7 +27,7 @@ pub record KeepsTo (recorded : List Arrival) (last count turns : ℕ) (arrivals 
   pub later : (k : ℕ) (other : Arrival) → count ≤ k → slice_get recorded k ≡ Some other → turns ≤ other.turn
 
 module _ (recorded : List Arrival) (last : ℕ) (order : IsInOrder recorded last) where
-  pub follows : (count turns : ℕ) (arrivals : List Arrival) → KeepsTo recorded last count turns arrivals → Follows recorded last turns arrivals
+  pub follows : (count turns : ℕ) (arrivals : List Arrival) → KeepsTo recorded last count turns arrivals → FollowsRecord recorded last turns arrivals
   follows count turns arrivals keeps = record { count = count; front = keeps.front; later = keeps.later; within = keeps.within }
 
   -- the next byte may still come

@@ -43,7 +43,7 @@ take_min n xs is = elim (cases_lt n 256) [
   | inr above ↦ take_all (min n 256) xs (omega (arith, is, above)) ∙ sym (take_all n xs (omega (arith, is, above)))
 ]
 
--- bytes of which each is one that arrived
+-- the bytes of what arrived are those that came
 arrived_bytes : (turns : ℕ) (bytes : List ℕ) → bytes_of (arrived turns bytes) ≡ bytes
 arrived_bytes turns [] = refl
 arrived_bytes turns (byte ∷ bytes) = ap (λ l. byte ∷ l) (arrived_bytes turns bytes)

@@ -110,7 +110,7 @@ pub record IsInOrder (recorded : List Arrival) (last : ℕ) : Type 0 where
   pub within : (k : ℕ) (one : Arrival) → slice_get recorded k ≡ Some one → one.turn ≤ last
 
 -- Each byte of a record came after its number of steps; those that did not come were to come after this number of steps or later.
-pub record Follows (recorded : List Arrival) (last turns : ℕ) (arrivals : List Arrival) : Type 0 where
+pub record FollowsRecord (recorded : List Arrival) (last turns : ℕ) (arrivals : List Arrival) : Type 0 where
   pub count : ℕ
   pub front : arrivals ≡ take count recorded
   pub later : (k : ℕ) (other : Arrival) → count ≤ k → slice_get recorded k ≡ Some other → turns ≤ other.turn
@@ -135,5 +135,5 @@ abbrev pub IsReplayed : {S : Type 0} → (S → Image) → (S → ℕ) → List 
 IsReplayed {S} sectors faults file words disk limit recorded last before end turns pc left arrivals after =
     ((cpu : Cpu) × (memory : List ℕ) × (new : PlayState S) × IsStart file words (Ok (cpu, memory)) × ReplayEnds sectors faults limit last (first_state cpu memory disk) end new
     × (turns ≡ new.turns) × (turns ≤ limit) × (pc ≡ new.run.machine.cpu.pc) × (left ≡ new.run.system.disk) × (arrivals ≡ new.arrivals) × IsShownAgain end before after new
-    × (IsInOrder recorded last → Follows recorded last turns arrivals))
+    × (IsInOrder recorded last → FollowsRecord recorded last turns arrivals))
     ⊎ ((no : StartFault) × IsStart file words (Err no) × (end ≡ play.Run (unstarted no)) × (turns ≡ 0) × (pc ≡ 0x0100) × (left ≡ disk) × (arrivals ≡ []) × (after ≡ before))

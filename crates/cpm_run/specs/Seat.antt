@@ -30,11 +30,11 @@ Listens old new (Ok came.Leave) buffer = (new.shown ≡ old.shown) × (new.left 
 Listens old new (Err fault) buffer = Stays old new
 
 -- What a screen did with bytes. If it fails, this does not say what it shows.
-pub record Shows (bytes : List ℕ) (old new : Seat) : Type 0 where
+pub record ShowsBytes (bytes : List ℕ) (old new : Seat) : Type 0 where
   pub shown : Appends old.shown new.shown bytes
   pub coming : new.coming ≡ old.coming
   pub left : new.left ≡ old.left
 
 abbrev pub TriesToShow : List ℕ → Seat → Seat → Result Unit StationFault → Type 0
-TriesToShow bytes old new (Ok done) = Shows bytes old new
+TriesToShow bytes old new (Ok done) = ShowsBytes bytes old new
 TriesToShow bytes old new (Err fault) = new.left ≡ old.left

@@ -1,7 +1,7 @@
 //! Runs a program again as in an earlier session, with the bytes of its record.
 
 ghost use Rattle.std.specs.Prelude.{◌≡◌, ◌≤◌, ◌<◌, [], ℕ, IfOk, List, OnOk, map, true};
-ghost use Rattle.cpm_run.specs.Play.{Follows, IsInOrder, IsReplayed, IsShownAgain, PlayState, ReplayEnds};
+ghost use Rattle.cpm_run.specs.Play.{FollowsRecord, IsInOrder, IsReplayed, IsShownAgain, PlayState, ReplayEnds};
 ghost use Rattle.cpm_run.specs.Seat.{Seat};
 ghost use Rattle.cpm_run.specs.Private.Playing.{HasReached, OnlyShows, Repeats, RepeatsTo, Stands, state_of};
 
@@ -83,7 +83,7 @@ impl<S: Sectors> Playing<S> {
     ) -> PlayEnd
         requires bound { self.old.turns ≤ limit }
         ensures bound { self.new.turns ≤ limit }
-        ensures follows { self.old.arrivals.items ≡ [] → self.old.turns ≡ 0 → IsInOrder recorded.now last → Follows recorded.now last self.new.turns self.new.arrivals.items }
+        ensures follows { self.old.arrivals.items ≡ [] → self.old.turns ≡ 0 → IsInOrder recorded.now last → FollowsRecord recorded.now last self.new.turns self.new.arrivals.items }
         ensures stands { (start : PlayState S) (before : Seat) → Stands S.sectors S.faults start before self.old (K.seat station.old) → RepeatsTo S.sectors S.faults limit last result start before self.new (K.seat station.new) }
     {
         for arrival in recorded {

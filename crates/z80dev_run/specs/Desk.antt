@@ -40,9 +40,9 @@ as_keys keys.Raw bytes = bytes
 as_keys keys.Lines bytes = map line_key bytes
 
 -- what bytes that were read mean, given whether the last key before them is the first half of leaving
-abbrev pub heard : Keys → Bool → List ℕ → Came
-heard keys.Raw was bytes = if has_left was bytes then came.Leave else came.Bytes (length bytes)
-heard keys.Lines was bytes = came.Bytes (length bytes)
+abbrev pub came_of : Keys → Bool → List ℕ → Came
+came_of keys.Raw was bytes = if has_left was bytes then came.Leave else came.Bytes (length bytes)
+came_of keys.Lines was bytes = came.Bytes (length bytes)
 
 -- the person has left with this
 abbrev pub is_leave : Came → Bool

@@ -2,7 +2,7 @@
 
 ghost use Rattle.std.specs.Prelude.{◌≡◌, ◌≤◌, EachIndex, ◌||◌, false, slice_index};
 ghost use Rattle.cpm_run.specs.Seat.{Listens};
-ghost use Rattle.z80dev_run.specs.Desk.{as_keys, has_left, heard, is_leave, line_key, seat_of};
+ghost use Rattle.z80dev_run.specs.Desk.{as_keys, has_left, came_of, is_leave, line_key, seat_of};
 ghost use Rattle.z80dev_run.specs.declared.desk.TheConstants.{MOST_LISTENS};
 
 use cpm_run::{Came, Patience, Station, StationFault};
@@ -165,7 +165,7 @@ impl<I: Input, S: Sink> Desk<I, S> {
     /// What bytes that were read mean. Those of lines become keys.
     fn hear(&mut self, bytes: &mut [u8]) -> Came
         ensures bytes { bytes.new ≡ as_keys self.old.keys bytes.old }
-        ensures came { result ≡ heard self.old.keys self.old.is_leaving bytes.old }
+        ensures came { result ≡ came_of self.old.keys self.old.is_leaving bytes.old }
         ensures left { self.new.left ≡ (self.old.left || is_leave result) }
         ensures input { self.new.input ≡ self.old.input }
         ensures output { self.new.output ≡ self.old.output }

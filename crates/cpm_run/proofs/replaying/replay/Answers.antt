@@ -1,6 +1,6 @@
 use Rattle.std.proofs.Common.{◌≤◌, ◌∙◌, inl, subst, sym, ap}
 use Rattle.cpm_run.specs.declared.arriving.PlayEnd.{PlayEnd}
-use Rattle.cpm_run.specs.Play.{Follows, IsShownAgain, PlaysOn, ReplayEnds, first_state}
+use Rattle.cpm_run.specs.Play.{FollowsRecord, IsShownAgain, PlaysOn, ReplayEnds, first_state}
 use Rattle.cpm_run.specs.Play.PlaysOn.{same}
 use Rattle.cpm_run.specs.Private.Playing.{state_of}
 use Rattle.cpm_run.proofs.Sitting.{at_first}
@@ -27,6 +27,6 @@ returns g c =
       played.disk ∙ others.disk,
       played.arrivals ∙ others.arrivals,
       subst (λ (e : PlayEnd). IsShownAgain e before (g.K.Station.seat c.finish-end.new.station) final) (sym played.end) closed.2,
-      λ order. subst (λ n. Follows c.args.recorded.now c.args.last n c.into_played.result.arrivals.items) (sym (played.turns ∙ others.turns)) (subst (λ l. Follows c.args.recorded.now c.args.last c.repeat-end.new.self.turns l) (sym (played.arrivals ∙ others.arrivals))
+      λ order. subst (λ n. FollowsRecord c.args.recorded.now c.args.last n c.into_played.result.arrivals.items) (sym (played.turns ∙ others.turns)) (subst (λ l. FollowsRecord c.args.recorded.now c.args.last c.repeat-end.new.self.turns l) (sym (played.arrivals ∙ others.arrivals))
           (c.repeat-end.ensures.follows (ap (λ s. s.arrivals) c.new-playing.ensures.state) (ap (λ s. s.turns) c.new-playing.ensures.state) order)),
     )

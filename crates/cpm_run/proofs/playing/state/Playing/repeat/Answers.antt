@@ -1,5 +1,5 @@
 use Rattle.std.proofs.Common.{◌≡◌, ◌≤◌, ◌+◌, ◌∙◌, ◌∷◌, [], ap, refl, subst, sym, arith}
-use Rattle.cpm_run.specs.Play.{Follows}
+use Rattle.cpm_run.specs.Play.{FollowsRecord}
 use Rattle.cpm_run.proofs.Replayed.{KeepsTo, follows, in_time, may_go, recorded_at, repeats_to, short, taken_all, taken_none, took_next, went_last, went_to}
 use Rattle.cpm_run.proofs.Sitting.{moved}
 use Rattle.cpm_run.proofs.playing.state.Playing.repeat.Goals as goal
@@ -21,8 +21,8 @@ returns-then-is_err-clause-follows g c = λ none_yet at_start order.
     let most : c.go_to.new.self.turns ≤ c.min.result = c.in_default.ensures.target below in
     let there = went_to c.args.recorded.now c.args.last order c.loop-arrival.arrival-index c.go_to.new.self.turns c.args.limit _ _ c.in_default.ensures.arrivals keeps.front c.loop-arrival-test.true (subst (λ n. c.go_to.new.self.turns ≤ n) c.min.ensures most) in
     let none_taken = c.take_in.ensures.arrivals ∙ taken_none c.go_to.new.self.turns ((recorded_at c.args.recorded.now c.loop-arrival.arrival-index).byte ∷ []) c.take_in.result c.go_to.new.self.arrivals.items (sym c.is_err.ensures.value ∙ c.if-is_err.true) in
-    subst (λ n. Follows c.args.recorded.now c.args.last n c.take_in.new.self.arrivals.items) (sym c.take_in.ensures.still.turns)
-    (subst (λ l. Follows c.args.recorded.now c.args.last c.go_to.new.self.turns l) (sym none_taken) (follows c.args.recorded.now c.args.last order c.loop-arrival.arrival-index c.go_to.new.self.turns c.go_to.new.self.arrivals.items there))
+    subst (λ n. FollowsRecord c.args.recorded.now c.args.last n c.take_in.new.self.arrivals.items) (sym c.take_in.ensures.still.turns)
+    (subst (λ l. FollowsRecord c.args.recorded.now c.args.last c.go_to.new.self.turns l) (sym none_taken) (follows c.args.recorded.now c.args.last order c.loop-arrival.arrival-index c.go_to.new.self.turns c.go_to.new.self.arrivals.items there))
 
 pub returns-then-is_err-clause-stands : goal.returns-then-is_err-clause-stands
 returns-then-is_err-clause-stands g c = λ start before first.
