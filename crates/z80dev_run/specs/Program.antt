@@ -65,11 +65,11 @@ abbrev pub arrival_line : Arrival → List ℕ
 arrival_line arrival = decimal arrival.turn ++ codes " " ++ encode_upper (arrival.byte ∷ []) ++ codes "\n"
 
 -- the line of the end: the number of steps, and the word END
-abbrev pub end_line : ℕ → List ℕ
-end_line turns = decimal turns ++ codes " END\n"
+abbrev pub closing_line : ℕ → List ℕ
+closing_line turns = decimal turns ++ codes " END\n"
 
 abbrev pub record_text : List Arrival → ℕ → List ℕ
-record_text arrivals turns = flat_map arrival_line arrivals ++ end_line turns
+record_text arrivals turns = flat_map arrival_line arrivals ++ closing_line turns
 
 -- This is the text of a record, and its numbers of steps do not go down.
 pub record IsRecord (text : List ℕ) (arrivals : List Arrival) (last : ℕ) : Type 0 where

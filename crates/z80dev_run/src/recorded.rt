@@ -3,7 +3,7 @@
 ghost use Rattle.std.specs.Prelude.{◌≡◌, ◌++◌, ◌≤◌, IfOk, IfSome, OnOk, true};
 ghost use Rattle.std.specs.List.{flat_map};
 ghost use Rattle.cpm_run.specs.Play.{IsInOrder};
-ghost use Rattle.z80dev_run.specs.Program.{IsRecord, arrival_line, end_line, record_text};
+ghost use Rattle.z80dev_run.specs.Program.{IsRecord, arrival_line, closing_line, record_text};
 
 use cpm_run::Arrival;
 use std::alloc::{AllocError, Global};
