@@ -286,7 +286,13 @@ fn play<F: Files, I: Input, W: Sink + Drop, E: Sink>(
         mut errors,
         is_terminal,
     } = host;
-    let mut desk = Desk::new(alloc, input, output, codes_of(job.terminal), keys_of(job.raw));
+    let mut desk = Desk::new(
+        alloc,
+        input,
+        output,
+        codes_of(job.terminal),
+        keys_of(job.raw),
+    );
     let steps = job.steps.unwrap_or(u64::MAX);
     let played = run_session(alloc, ready, &recorded, &mut desk, steps);
     let status = end_play(alloc, job, &inputs, &played, &mut files, &mut errors);

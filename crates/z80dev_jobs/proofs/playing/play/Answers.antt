@@ -28,14 +28,14 @@ returns-clause-ends g c =
     let old = world_of (g.F.Files.folder host.files) (reader_of (g.I.Input.remaining host.input) (g.I.Input.failed host.input) (g.I.Input.reads host.input) (g.I.Input.interruptions host.input)) (g.W.Sink.stream host.output) (g.E.Sink.stream host.errors) in
     let new = world_of (g.F.Files.folder c.end_play-status.new.files) (reader_of (g.I.Input.remaining rest) (g.I.Input.failed rest) (g.I.Input.reads rest) (g.I.Input.interruptions rest)) (g.W.Sink.stream output) (g.E.Sink.stream c.end_play-status.new.errors) in
     let before : seat_of desk.screen.codes desk.keys desk.left (g.I.Input.remaining desk.input) (g.W.Sink.stream desk.output).bytes ≡ seated job old =
-        ap (λ k. seat_of k desk.keys desk.left (g.I.Input.remaining desk.input) (g.W.Sink.stream desk.output).bytes) (c.new-desk.ensures.codes ∙ c.codes_of.ensures)
-        ∙ ap (λ k. seat_of (codes_of job.terminal) k desk.left (g.I.Input.remaining desk.input) (g.W.Sink.stream desk.output).bytes) (c.new-desk.ensures.keys ∙ c.keys_of.ensures)
-        ∙ ap (λ b. seat_of (codes_of job.terminal) (keys_of job.raw) b (g.I.Input.remaining desk.input) (g.W.Sink.stream desk.output).bytes) c.new-desk.ensures.left
-        ∙ ap (λ i. seat_of (codes_of job.terminal) (keys_of job.raw) false (g.I.Input.remaining i) (g.W.Sink.stream desk.output).bytes) c.new-desk.ensures.input
-        ∙ ap (λ o. seat_of (codes_of job.terminal) (keys_of job.raw) false (g.I.Input.remaining host.input) (g.W.Sink.stream o).bytes) c.new-desk.ensures.output in
+    ap (λ k. seat_of k desk.keys desk.left (g.I.Input.remaining desk.input) (g.W.Sink.stream desk.output).bytes) (c.new-desk.ensures.codes ∙ c.codes_of.ensures)
+    ∙ ap (λ k. seat_of (codes_of job.terminal) k desk.left (g.I.Input.remaining desk.input) (g.W.Sink.stream desk.output).bytes) (c.new-desk.ensures.keys ∙ c.keys_of.ensures)
+    ∙ ap (λ b. seat_of (codes_of job.terminal) (keys_of job.raw) b (g.I.Input.remaining desk.input) (g.W.Sink.stream desk.output).bytes) c.new-desk.ensures.left
+    ∙ ap (λ i. seat_of (codes_of job.terminal) (keys_of job.raw) false (g.I.Input.remaining i) (g.W.Sink.stream desk.output).bytes) c.new-desk.ensures.input
+    ∙ ap (λ o. seat_of (codes_of job.terminal) (keys_of job.raw) false (g.I.Input.remaining host.input) (g.W.Sink.stream o).bytes) c.new-desk.ensures.output in
     let after : seat_of seat.screen.codes seat.keys seat.left (g.I.Input.remaining seat.input) (g.W.Sink.stream seat.output).bytes ≡ seat_of seat.screen.codes seat.keys seat.left (g.I.Input.remaining rest) (g.W.Sink.stream output).bytes =
-        ap (λ i. seat_of seat.screen.codes seat.keys seat.left (g.I.Input.remaining i) (g.W.Sink.stream seat.output).bytes) (sym c.into_streams-input.ensures.input)
-        ∙ ap (λ o. seat_of seat.screen.codes seat.keys seat.left (g.I.Input.remaining rest) (g.W.Sink.stream o).bytes) (sym c.into_streams-input.ensures.output) in
+    ap (λ i. seat_of seat.screen.codes seat.keys seat.left (g.I.Input.remaining i) (g.W.Sink.stream seat.output).bytes) (sym c.into_streams-input.ensures.input)
+    ∙ ap (λ o. seat_of seat.screen.codes seat.keys seat.left (g.I.Input.remaining rest) (g.W.Sink.stream o).bytes) (sym c.into_streams-input.ensures.output) in
     inr (
       inputs,
       recorded,
