@@ -136,8 +136,10 @@ fn session_of<'a, F: Files>(
     ensures { ReadsSession job.now (F.folder files.old) (F.folder files.new) result }
 {
     let inputs = played_of(alloc, job, files)?;
-    let recorded = recorded_of(alloc, job.replay, files)?;
-    Ok((inputs, recorded))
+    match recorded_of(alloc, job.replay, files) {
+        Ok(recorded) => Ok((inputs, recorded)),
+        Err(end) => Err(end),
+    }
 }
 
 /// Plays a program, or plays it again if there is a record.
