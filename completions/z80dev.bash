@@ -140,7 +140,7 @@ _z80dev() {
     protect | unprotect) options='--system --user --no-lock -h --help' ;;
     blank) options='--mega --keep --no-lock -h --help' ;;
     run) options='--disk --no-lock --steps --labels --regs --last --trace --profile --list -h --help' ;;
-    debug) options='--disk --input --labels --list -h --help' ;;
+    debug) options='--disk --input --replay --labels --list -h --help' ;;
     play) options='--disk --no-lock --steps --raw --terminal --record --replay -h --help' ;;
     esac
     if [[ "$word" == -* || -z "$command" ]]; then

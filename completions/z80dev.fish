@@ -207,7 +207,8 @@ complete -c z80dev -n '__z80dev_at run; and not __z80dev_at run 0' -a '(set -l d
 
 complete -c z80dev -n '__z80dev_at debug' -s h -l help -d 'Print help'
 complete -c z80dev -n '__z80dev_at debug' -l disk -x -a '(__z80dev_files img dsk cpm)' -d 'Image of drive A, which is not written'
-complete -c z80dev -n '__z80dev_at debug' -l input -r -F -d 'File with what is typed'
+complete -c z80dev -n '__z80dev_at debug' -l input -r -F -d 'File with what is typed before the start'
+complete -c z80dev -n '__z80dev_at debug' -l replay -r -F -d 'Record of a session to debug'
 complete -c z80dev -n '__z80dev_at debug' -l labels -x -a '(__z80dev_files sym)' -d 'File of labels'
 complete -c z80dev -n '__z80dev_at debug' -l list -x -a '(__z80dev_files lst)' -d 'Listing of which where shows lines'
 complete -c z80dev -n '__z80dev_at debug 0' -a '(__z80dev_files com)' -d 'Program'

@@ -1,5 +1,5 @@
 # Converts a source of another assembler to the language of z80dev. `convert` calls it; the variables from, keep and file come from
-# the environment. Written for the awk of POSIX.
+# the environment; intel.awk has what is particular to sources in the mnemonics of the 8080. Written for the awk of POSIX.
 #
 # The source is read whole, with the files that it includes. A first walk over its lines collects what they define; a second one
 # writes them. Both cut a line into tokens first, so what stands in a string or a comment is never changed. An expression is parsed
@@ -7,12 +7,17 @@
 # and z80dev would reckon another one (other assemblers have signs, or 32 bits), the number is written instead.
 
 BEGIN {
-    from = ENVIRON["from"]; keep = ENVIRON["keep"] + 0; file = ENVIRON["file"]
+    from = ENVIRON["from"]
+    # Sources in the mnemonics of the 8080 follow the rules of M80, but for what intel.awk has.
+    intel = from == "8080"
+    if (intel) from = "m80"
+    keep = ENVIRON["keep"] + 0; file = ENVIRON["file"]
     QUOTE = sprintf("%c", 39)
     # Stands for a byte 0 in a string, which not every awk can hold.
     ZERO = sprintf("%c", 28)
     start_tables()
     read_file(file, 0)
+    if (intel) note_macros()
     walk(1)
     settle()
     walk(2)
@@ -69,6 +74,8 @@ function start_tables() {
         "RST SBC SCF SET SLA SLL SLI SRA SRL SUB XOR", instruction, 1)
     each_of("A B C D E H L I R AF BC DE HL IX IY SP IXH IXL IYH IYL AF' NZ Z NC C PO PE P M", register, 1)
     each_of("A B C D E H L I R AF BC DE HL IX IY SP NZ Z NC C PO PE P M EQ NE LT LE GT GE NOT AND OR XOR MOD SHL SHR HIGH LOW", reserved, 1)
+    each_of("MOV MVI LXI LDA STA LHLD SHLD LDAX STAX XCHG ADI ACI SUI SBI SBB INR DCR INX DCX DAD ANA XRA ORA CMP ANI XRI ORI RAL RAR CMA STC CMC " \
+        "JMP JC JNC JZ JNZ JM JPE JPO CC CNC CZ CNZ CM CPE CPO RC RNC RZ RNZ RM RPE RPO PCHL SPHL XTHL HLT", of_8080, 1)
     code["B"] = 0; code["C"] = 1; code["D"] = 2; code["E"] = 3; code["H"] = 4; code["L"] = 5; code["A"] = 7
     short["NZ"] = "20H"; short["Z"] = "28H"; short["NC"] = "30H"; short["C"] = "38H"
     rotate["RLC"] = 0; rotate["RRC"] = 8; rotate["RL"] = 16; rotate["RR"] = 24; rotate["SLA"] = 32; rotate["SRA"] = 40
@@ -80,11 +87,13 @@ function start_tables() {
     ours["AND"] = 3; ours["OR"] = 2; ours["XOR"] = 2
 
     truth = 65535
+    no_number = "not a number"
     too_wide = "a condition that may have more than 16 bits"
     directives("DB DEFB DEFM", "DB"); directives("DW DEFW", "DW"); directives("DS DEFS", "DS")
     directives("EQU", "EQU"); directives("ORG", "ORG"); directives("END", "END")
     directives("IF", "IF"); directives("ELSE", "ELSE"); directives("ENDIF", "ENDIF"); directives("MACRO", "MACRO"); directives("ENDM", "ENDM")
     directives("INCLUDE", "INCLUDE"); directives("INCBIN", "INCBIN")
+    if (from != "sdas") directives("ELSEIF ELIF", "ELSEIF")
     if (from != "sdas") each_of("INCLUDE", swallows, 1)
     if (from == "m80") each_of("TITLE SUBTTL $TITLE .PRINTX .COMMENT .REQUEST MACLIB $INCLUDE", swallows, 1)
     if (from == "pasmo") each_of(".WARNING .ERROR", swallows, 1)
@@ -92,13 +101,13 @@ function start_tables() {
     if (from == "sdas") each_of(".TITLE .SBTTL .OPTSDCC .MODULE", swallows, 1)
     if (from == "m80") {
         operators(6, "* / MOD SHL SHR"); operators(5, "+ -"); operators(4, "EQ NE LT LE GT GE"); operators(2, "AND"); operators(1, "OR XOR")
-        prefixes(7, "HIGH=HIGH LOW=LOW"); prefixes(6, "-=- +=+"); prefixes(3, "NOT=NOT")
+        prefixes(7, "HIGH=HIGH LOW=LOW"); prefixes(6, "-=- +=+"); prefixes(3, "NOT=NOT"); prefixes(9, "NUL=NUL")
         directives("REPT", "REPT"); directives("LOCAL", "LOCAL"); directives("EXITM", "MARK")
         directives("IRP IRPC", "IRP"); directives("DC", "DC"); directives("DEFL ASET", "DEFL")
         directives("PUBLIC ENTRY GLOBAL", "PUBLIC"); directives("EXTRN EXT EXTERNAL", "EXTRN")
         directives("TITLE SUBTTL $TITLE PAGE $EJECT *EJECT NAME CSEG DSEG ASEG .Z80 .PRINTX .LIST .XLIST .CREF .XCREF .LALL .SALL .XALL .SFCOND .LFCOND .TFCOND .REQUEST", "DROP")
         directives("COND IFT", "IF"); directives("ENDC", "ENDIF"); directives("IFF IFE", "IFNOT"); directives("IF1", "IF1"); directives("IF2", "IF2")
-        directives("IFDEF", "IFDEF"); directives("IFNDEF", "IFNDEF"); directives("IFB IFNB IFIDN IFDIF COMMON .PHASE .DEPHASE .8080", "MARK")
+        directives("IFDEF", "IFDEF"); directives("IFNDEF", "IFNDEF"); directives("IFB IFNB", "IFB"); directives("IFIDN IFDIF COMMON .PHASE .DEPHASE .8080", "MARK")
         directives(".COMMENT", "COMMENT"); directives(".RADIX", "RADIX"); directives("BYTE", "MARK"); directives("MACLIB $INCLUDE", "INCLUDE")
     } else if (from == "pasmo") {
         operators(8, "* / MOD %=MOD SHL SHR <<=SHL >>=SHR"); operators(7, "+ -")
@@ -126,11 +135,12 @@ function start_tables() {
         tight["<="] = tight[">="] = tight["<"] = tight[">"] = 7
         binary["=="] = binary["="] = "EQ"; binary["!="] = "NE"; tight["=="] = tight["="] = tight["!="] = 6
         prefixes(11, "~=NOT NOT=! !=! +=+ -=- HIGH=HIGH LOW=LOW")
+        truth = -1
         directives("DM BYTE .BYTE .DB", "DB"); directives("WORD .WORD .DW", "DW"); directives("BLOCK .BLOCK", "DS"); directives("DC", "DC"); directives("DZ ASCIZ", "DZ")
         directives("REPT DUP", "REPT"); directives("EDUP ENDR", "ENDM"); directives("DEFL", "DEFL")
         directives("DEVICE OUTPUT SAVEBIN SAVESNA SAVETAP PAGE SLOT ENCODING OPT", "DROP")
         directives("IFDEF IFNDEF", "MARK")
-        directives("ALIGN DISP PHASE ENT UNPHASE DEPHASE STRUCT ENDS MODULE ENDMODULE DEFINE UNDEFINE LUA ENDLUA ELSEIF IFUSED IFNUSED ASSERT " \
+        directives("ALIGN DISP PHASE ENT UNPHASE DEPHASE STRUCT ENDS MODULE ENDMODULE DEFINE UNDEFINE LUA ENDLUA IFUSED IFNUSED ASSERT " \
             "DD DWORD DEFD D24 DH HEX DEFH DEFARRAY WHILE ENDW ENDT EXPORT INSERT INCLUDELUA DISPLAY BINARY INCHOB INCTRD TEXTAREA ENDTEXTAREA MAP ENDMAP", "MARK")
         directives("DISPLAY EXPORT", "DROP"); directives("INSERT", "INCBIN")
     } else {
@@ -142,10 +152,11 @@ function start_tables() {
         directives(".ORG", "ORG"); directives(".GLOBL .GLOBAL", "GLOBL"); directives(".EQU .GBLEQU .LCLEQU", "EQU2")
         directives(".IF .IFNE", "IF"); directives(".IFEQ", "IFNOT"); directives(".ELSE", "ELSE"); directives(".ENDIF", "ENDIF")
         directives(".IFDEF", "IFDEF"); directives(".IFNDEF", "IFNDEF"); directives(".MACRO", "MACRO"); directives(".ENDM", "ENDM"); directives(".REPT", "REPT")
-        directives(".Z80 .MODULE .OPTSDCC .TITLE .SBTTL .PAGE .LIST .NLIST .RADIX .AREA .END", "DROP"); directives(".INCLUDE", "INCLUDE"); directives(".INCBIN", "INCBIN")
+        directives(".Z80 .MODULE .OPTSDCC .TITLE .SBTTL .PAGE .LIST .NLIST .AREA .END", "DROP"); directives(".RADIX", "RADIX"); directives(".INCLUDE", "INCLUDE"); directives(".INCBIN", "INCBIN")
         directives(".IFGT .IFLT .IFGE .IFLE .IRP .IRPC .MEXIT .EVEN .ODD .BNDRY .BANK .DL .LONG .QUAD .MDELETE .NARG .NCHR .NTYP", "MARK")
         each_of(".ASCII .ASCIZ .ASCIS .STR .STRZ .STRS .INCLUDE .INCBIN", delimited, 1)
     }
+    if (intel) intel_tables()
 }
 
 # ---- Reading
@@ -156,49 +167,80 @@ function folder_of(path) {
 }
 
 # Reads a file into the lines, and where it includes another one, that one. The depth ends a circle of files.
-function read_file(path, depth,    text, own, name, found, word, body) {
+function read_file(path, depth,    text, own, n, k, part, last_line) {
     own = ++files
-    while ((getline text <path) > 0) {
+    while (!last_line && (getline text <path) > 0) {
         sub(/\r$/, "", text)
         if (index(text, sprintf("%c", 26))) {
             text = substr(text, 1, index(text, sprintf("%c", 26)) - 1)
-            body = 1
+            last_line = 1
         }
-        lines++
-        line[lines] = text
-        file_of[lines] = own
-        if (depth < 16 && match(toupper(text), /^[A-Z0-9_.:?@]*[ \t]*[.$]?(INCLUDE|MACLIB)[ \t]+/)) {
-            name = substr(text, RLENGTH + 1)
-            if (substr(name, 1, 1) ~ /["'<]/) {
-                word = substr(name, 1, 1) == "<" ? ">" : substr(name, 1, 1)
-                name = substr(name, 2)
-                if (index(name, word)) name = substr(name, 1, index(name, word) - 1)
-            } else {
-                sub(/[ \t;].*/, "", name)
-            }
-            found = found_file(name, folder_of(path))
-            if (found != "") {
-                included[lines] = 1
-                if (!(found in open_now)) {
-                    open_now[found] = 1
-                    read_file(found, depth + 1)
-                    delete open_now[found]
-                }
-            }
-        }
-        if (body) break
+        n = 1
+        part[1] = text
+        if (intel) n = cut_statements(text, part)
+        for (k = 1; k <= n; k++) take_line(part[k], path, own, depth)
     }
     close(path)
 }
 
-# Where a file is: beside the one that names it, where this is called, or in a folder that was given.
-function found_file(name, folder,    n, part, i, t) {
+# Notes a line, and reads the file that it includes.
+function take_line(text, path, own, depth,    name, found, word) {
+    lines++
+    line[lines] = text
+    file_of[lines] = own
+    if (depth < 16 && match(toupper(text), /^[A-Z0-9_.:?@]*[ \t]*[.$]?(INCLUDE|MACLIB)[ \t]+/)) {
+        name = substr(text, RLENGTH + 1)
+        if (substr(name, 1, 1) ~ /["'<]/) {
+            word = substr(name, 1, 1) == "<" ? ">" : substr(name, 1, 1)
+            name = substr(name, 2)
+            if (index(name, word)) name = substr(name, 1, index(name, word) - 1)
+        } else {
+            sub(/[ \t;].*/, "", name)
+        }
+        found = found_file(name, folder_of(path), intel ? ".LIB" : from == "m80" ? ".MAC" : "")
+        if (several) alike[lines] = 1
+        else if (found == "" && intel) found = found_file(name, folder_of(path), ".MAC")
+        if (found != "") {
+            included[lines] = 1
+            if (!(found in open_now)) {
+                open_now[found] = 1
+                read_file(found, depth + 1)
+                delete open_now[found]
+            }
+        }
+    }
+}
+
+# Where a file is: beside the one that names it, where this is called, or in a folder that was given. If no file has the name as it is
+# written, the one whose name differs in case alone is taken: CP/M has no lower case. M80 names a drive, and leaves .MAC out.
+function found_file(name, folder, more,    n, part, i, t, k) {
+    several = 0
     n = split(folder "\n" folder_of(file) "\n\n" ENVIRON["folders"], part, "\n")
-    for (i = 1; i <= n; i++) {
-        t = part[i] name
-        if ((getline found_line <t) >= 0) { close(t); return t }
+    for (k = 1; k <= 4; k++) {
+        if (k == 3 && more == "") break
+        if (k == 3) { sub(/^[A-Pa-p]:/, "", name); if (name !~ /[.]/) name = name more }
+        for (i = 1; i <= n; i++) {
+            t = part[i] name
+            if (k % 2 == 0) t = in_any_case(t)
+            if (t != "" && (getline found_line <t) >= 0) { close(t); return t }
+        }
     }
     return ""
+}
+
+# The one file of a path's folder that has its name but for the case, "" if there are none or several.
+function in_any_case(path,    folder, name, command, t, found, n) {
+    folder = folder_of(path)
+    name = toupper(substr(path, length(folder) + 1))
+    if (name == "" || name ~ /[^ -~]/) return ""
+    t = folder == "" ? "." : folder
+    gsub(QUOTE, QUOTE "\\" QUOTE QUOTE, t)
+    command = "ls -a -- " QUOTE t QUOTE " 2>/dev/null"
+    n = 0
+    while ((command | getline t) > 0) if (toupper(t) == name) { n++; found = t }
+    close(command)
+    if (n > 1) several = 1
+    return n == 1 ? folder found : ""
 }
 
 # ---- Tokens
@@ -241,7 +283,8 @@ function hexadecimal(v,    s) {
 # A number of a base: its text is written in the same base.
 function number_token(digits, base, begins, ends,    v, s) {
     v = number_in(digits, base)
-    if (v < 0) { wrong = "a number that is none"; v = 0 }
+    if (v < 0) { wrong = no_number; v = 0 }
+    if (intel && v > 65535) wrong = "a number above 65535"
     s = toupper(digits)
     if (base == 16) s = hexadecimal(v)
     else if (base == 2) s = s "B"
@@ -256,13 +299,13 @@ function number_token(digits, base, begins, ends,    v, s) {
 # A number that begins with a digit.
 function plain_number(word, begins, ends,    w, last) {
     w = toupper(word)
-    if (from == "pasmo") gsub(/\$/, "", w)
+    if (from == "pasmo" || intel) gsub(/\$/, "", w)
     last = substr(w, length(w), 1)
     if (w ~ /^0X/) return number_token(substr(w, 3), 16, begins, ends)
     if (from == "sdas") {
         if (w ~ /^0[BODHQ][0-9A-F]+$/ || w ~ /^0[BODHQ]/)
             return number_token(substr(w, 3), substr(w, 2, 1) == "B" ? 2 : substr(w, 2, 1) == "D" ? 10 : substr(w, 2, 1) == "H" ? 16 : 8, begins, ends)
-        return number_token(w, 10, begins, ends)
+        return number_token(w, radix, begins, ends)
     }
     if (last == "H") return number_token(substr(w, 1, length(w) - 1), 16, begins, ends)
     if (from == "sjasmplus" && w ~ /^0B[01]+$/) return number_token(substr(w, 3), 2, begins, ends)
@@ -271,7 +314,11 @@ function plain_number(word, begins, ends,    w, last) {
         token("i", w, begins, ends)
         return
     }
-    if (radix == 16) return number_token(w, 16, begins, ends)
+    if (radix == 16) {
+        number_token(w, 16, begins, ends)
+        if (last == "B" || last == "D") wrong = "a number with B or D at its end, where the radix is 16"
+        return
+    }
     if (last == "B") return number_token(substr(w, 1, length(w) - 1), 2, begins, ends)
     if (last == "O" || last == "Q") return number_token(substr(w, 1, length(w) - 1), 8, begins, ends)
     if (last == "D") return number_token(substr(w, 1, length(w) - 1), 10, begins, ends)
@@ -296,7 +343,7 @@ function is_word(k,    v) {
     if (k == 1) return 1
     v = value_of[k - 1]
     if (kind_of[k - 1] == "o") return v == "::" || v == ":" && (k == 3 || from == "sjasmplus")
-    return k == 2 && kind_of[1] == "i" && !is_command(1)
+    return k == 2 && kind_of[1] == "i" && (!is_command(1) || meaning(toupper(value_of[2])) == "MACRO")
 }
 
 function is_command(k,    v) {
@@ -309,6 +356,7 @@ function is_defined_here(rest) {
     rest = toupper(rest) " "
     sub(/^[ \t]+/, "", rest)
     if (from == "sjasmplus" && tokens == 1 && begin_of[1] == 1) return 1
+    if (intel && tokens == 1 && rest ~ /^D[BSW][ \t]/) return 1
     return tokens == 1 && rest ~ /^(:|=|(EQU|DEFL|SET|ASET|MACRO)[ \t,])/
 }
 
@@ -370,6 +418,7 @@ function cut(s,    n, i, c, two, start, word, at, rest, q) {
         c = substr(s, i, 1)
         if (c == " " || c == "\t" || c == "\f") continue
         two = substr(s, i, 2)
+        if (c == "*" && i == 1 && intel) { comment = ";" substr(s, 2); tail = i; return }
         if (c == ";" || two == "//" && from == "sjasmplus") {
             comment = substr(s, i)
             tail = i
@@ -433,12 +482,12 @@ function cut(s,    n, i, c, two, start, word, at, rest, q) {
         }
         if (c ~ /[0-9]/) {
             start = i
-            while (i <= n && substr(s, i, 1) ~ /[0-9A-Za-z_]/ || substr(s, i, 1) == "$" && (from == "pasmo" || from == "sdas") && i <= n) i++
+            while (i <= n && substr(s, i, 1) ~ /[0-9A-Za-z_]/ || substr(s, i, 1) == "$" && (from == "pasmo" || from == "sdas" || intel) && i <= n) i++
             word = substr(s, start, i - start)
             i--
             if (from == "sdas" && word ~ /^[0-9]+\$$/) token("i", word, start, i)
             else if (from == "sjasmplus" && start == 1 && tokens == 0 && word ~ /^[0-9]+$/) token("i", word, start, i)
-            else if (from == "pasmo" && tokens == 0 && word ~ /^[0-9]+$/) continue
+            else if ((from == "pasmo" || intel) && tokens == 0 && word ~ /^[0-9]+$/) continue
             else plain_number(word, start, i)
             continue
         }
@@ -482,7 +531,7 @@ function cut(s,    n, i, c, two, start, word, at, rest, q) {
             number_token(word, at, start, i)
             continue
         }
-        if (c ~ /[A-Za-z_.]/ || c ~ /[?@]/ && from != "z80asm" && !(c == "?" && after_value()) || c == "$" && from == "m80" && substr(s, i + 1, 1) ~ /[A-Za-z]/) {
+        if (c ~ /[A-Za-z_.]/ || c ~ /[?@]/ && from != "z80asm" && !(c == "?" && from == "pasmo" && after_value()) || c == "$" && from == "m80" && substr(s, i + 1, 1) ~ /[A-Za-z]/ && !(intel && tokens)) {
             start = i
             i++
             while (i <= n && (substr(s, i, 1) ~ /[A-Za-z0-9_.]/ || substr(s, i, 1) ~ /[?@$]/ && from != "z80asm" && from != "sdas" || substr(s, i, 1) == "$" && from == "sdas" ||
@@ -507,7 +556,7 @@ function cut(s,    n, i, c, two, start, word, at, rest, q) {
 function name_for(name,    upper, n, k) {
     if (name == "$") return name
     upper = toupper(name)
-    for (k = macros; k > 0; k--) if ((k, from == "m80" ? upper : name) in parameter) return clean(name)
+    for (k = macros; k > 0; k--) if ((k, folded(name)) in parameter) return parameter_text(name)
     if (from == "sdas" && name ~ /^[0-9]+\$$/) return "L" (name + 0) "_" scope
     if (from == "sjasmplus") {
         if (name ~ /^[0-9]+[BFbf]$/) return "T" (name + 0) "_" (counter[name + 0] + (toupper(name) ~ /F$/))
@@ -522,20 +571,27 @@ function name_for(name,    upper, n, k) {
 }
 
 function is_parameter(name,    k, key) {
-    key = from == "m80" ? toupper(name) : name
+    key = folded(name)
     for (k = macros; k > 0; k--) if ((k, key) in parameter) return k
     return 0
+}
+
+# A name as it is compared: where upper and lower case are the same, in upper case. ASM and MAC read over $ in a name.
+function folded(name) {
+    if (from != "m80") return name
+    if (intel && name != "$") gsub(/\$/, "", name)
+    return toupper(name)
 }
 
 # What a name is known as where it stands: upper and lower case may differ, and a range may have a name of its own.
 function known_as(name,    n) {
     for (n = procs; n > 0; n--) if ((n, name) in own_of) return own_of[n, name]
-    return from == "m80" ? toupper(name) : name
+    return folded(name)
 }
 
 # A name of characters that z80dev takes.
 function clean(name) {
-    if (from == "pasmo") gsub(/\$/, "", name)
+    if (from == "pasmo" || intel) gsub(/\$/, "", name)
     gsub(/[^A-Za-z0-9_?@.]/, "_", name)
     return name
 }
@@ -569,8 +625,8 @@ function define(name, what,    key, other, n) {
     times[key] = 1
     line_of[key] = here
     other = toupper(clean(key))
-    if (other in owner || other in reserved) {
-        n = other in reserved ? 1 : 2
+    if (other in owner || other in reserved || what == "MACRO" && (other in written_word)) {
+        n = other in owner ? 2 : 1
         while ((other "_" n) in owner) n++
         renamed[key] = clean(name) "_" n
         owner[other "_" n] = key
@@ -588,7 +644,7 @@ function wrapped(text, level, least) {
 }
 
 function term(v, text) {
-    out_text = text; out_level = 9; out_known = 1; out_value = v; out_ours = v % 65536; out_place = 0
+    out_text = text; out_level = 9; out_known = 1; out_value = v; out_ours = unsigned(v); out_place = 0
     out_plain = 1; out_wide = 0; out_parameter = ""; out_base = ""; out_offset = v
 }
 
@@ -625,14 +681,14 @@ function unsigned(v) {
 }
 
 # Bit by bit, on 32 bits.
-function bits(a, b, op,    i, x, y, r, place) {
+function bits(a, b, op,    i, x, y, r, weight) {
     if (a < 0) a += 4294967296
     if (b < 0) b += 4294967296
-    r = 0; place = 1
+    r = 0; weight = 1
     for (i = 0; i < 32; i++) {
         x = a % 2; y = b % 2
-        if (op == "AND" && x && y || op == "OR" && (x || y) || op == "XOR" && x != y) r += place
-        a = int(a / 2); b = int(b / 2); place *= 2
+        if (op == "AND" && x && y || op == "OR" && (x || y) || op == "XOR" && x != y) r += weight
+        a = int(a / 2); b = int(b / 2); weight *= 2
     }
     return r
 }
@@ -720,15 +776,17 @@ function parse_prefix(op, least,    k, t) {
         remark = remark " " value_of[p - 1] (k ? " is" : " is not") " defined."
         return
     }
-    if (op == "NUL") { wrong = "NUL"; p = last + 1; term(0, "0"); return }
+    if (op == "NUL") { wrong = "NUL: whether an argument is empty"; p = last + 1; term(0, "0"); return }
+    if (intel) k = p - 1
     parse_level(least)
+    if (intel) doubt_prefix(op, k)
     note_calculated()
     t = out_text; k = out_level
     if (op == "+") return
     rely(out_base, out_offset)
     if (out_base != "") out_base = "?"
     if (op == "!" && out_wide) wrong = too_wide
-    out_plain = op ~ /^(!|HIGH|LOW)$/
+    out_plain = op ~ /^(HIGH|LOW)$/ || op == "!" && from != "sjasmplus"
     if (out_plain) out_wide = 0
     if (op == "-") { out_text = "-" wrapped(t, k, 8); out_level = 8; out_value = signed(-out_value); out_ours = unsigned(-out_ours) }
     else if (op == "NOT") { out_text = "NOT " wrapped(t, k, 4); out_level = 4; out_value = signed(-1 - out_value); out_ours = unsigned(-1 - out_ours) }
@@ -738,7 +796,7 @@ function parse_prefix(op, least,    k, t) {
     if (out_base == "") out_offset = out_value
 }
 
-function parse_term(    v, key, n, i, t, level, known, value, own, place) {
+function parse_term(    v, key, n) {
     if (p > last) { wrong = "an expression without its end"; term(0, "0"); return }
     v = value_of[p]
     if (kind_of[p] == "n") { term(number_of[p], value_of[p]); p++; return }
@@ -759,10 +817,11 @@ function parse_term(    v, key, n, i, t, level, known, value, own, place) {
         if ((toupper(v) in prefix) && !(known_as(v) in defined) && !is_parameter(v)) { p++; parse_prefix(prefix[toupper(v)], looser[toupper(v)]); return }
         p++
         if (is_parameter(v)) {
-            term(0, clean(v))
+            if (intel && !(as_argument && parse_first == last)) note_use(v, "v")
+            term(0, parameter_text(v))
             out_known = 0; out_plain = 0; out_parameter = v; out_base = "?"
             n = is_parameter(v)
-            if (!((n, from == "m80" ? toupper(v) : v) in number_of_parameter)) {
+            if (!((n, folded(v)) in number_of_parameter)) {
                 # A LOCAL label.
                 out_base = "@" stack[n] " " toupper(v); out_plain = 1; out_offset = 0
             }
@@ -770,6 +829,7 @@ function parse_term(    v, key, n, i, t, level, known, value, own, place) {
         }
         if (from == "m80" && value_of[p] == "##" && p <= last) { p++; external[known_as(v)] = 1; if (walk_number == 2 && !(known_as(v) in declared)) { declared[known_as(v)] = 1; wanted[++wants] = v } }
         key = known_as(v)
+        if (intel && value_of_word(v, key)) return
         if (what_is(key) == "DEFL" && (macro_depth() || walk_number == 2 && (key in tainted))) { term(0, name_for(v)); out_known = 0; wrong = "a name that changes its value"; return }
         if (key in constant) { term(constant[key], name_for(v)); out_ours = constant_ours[key]; if (what_is(key) == "DEFL") out_text = number_text(out_ours); return }
         term(0, name_for(v))
@@ -787,9 +847,11 @@ function parse_term(    v, key, n, i, t, level, known, value, own, place) {
         if (what_is(key) == "DEFL") wrong = "a name that changes its value"
         return
     }
+    if (v == "[" && from == "z80asm") { wrong = "z80asm makes something else of [ ]"; p = last + 1; term(0, "0"); return }
     if (v == "(" || v == "[" && from != "m80") {
         p++
         parse_level(0)
+        if (wrong) return
         if (value_of[p] != (v == "(" ? ")" : "]") || p > last) { wrong = "a parenthesis without its end"; return }
         p++
         # The argument may have operators that are looser than those around the parentheses.
@@ -806,8 +868,8 @@ function parse_term(    v, key, n, i, t, level, known, value, own, place) {
 function note_calculated(    k) {
     if (out_parameter == "") return
     k = is_parameter(out_parameter)
-    if (k && (k, from == "m80" ? toupper(out_parameter) : out_parameter) in number_of_parameter)
-        calculated[macro_of[k], number_of_parameter[k, from == "m80" ? toupper(out_parameter) : out_parameter]] = 1
+    if (k && (k, folded(out_parameter)) in number_of_parameter)
+        calculated[macro_of[k], number_of_parameter[k, folded(out_parameter)]] = 1
     out_parameter = ""
 }
 
@@ -845,6 +907,7 @@ function line_of_base(base,    n) {
 
 # Finds the lines that have to keep their lengths.
 function settle(    k, from_line, offset) {
+    if (intel) spread_uses()
     for (k = 1; k <= relies; k++) {
         if (rely_unless[k] != "" && rely_unless[k] != "?" && line_of_base(rely_unless[k])) continue
         from_line = line_of_base(rely_base[k])
@@ -886,6 +949,61 @@ function keep_body(name,    i) {
     }
 }
 
+# ---- Tables of jumps
+#
+# JP lines without a condition, one after the other, of which the second and later have no label: only a computed jump reaches these, so
+# the program enters a table by an index. NOP, RET, JR and data between them belong to the table. The first walk keeps the JP lines since
+# the last label or other statement in run_line, and notes those of a table in in_table. A macro that begins and ends with such a JP may
+# be one entry.
+
+function end_run() {
+    if (walk_number != 1 || is_dead()) return
+    run_jumps = 0; body_begins = 0
+}
+
+function note_jump(    i) {
+    if (walk_number != 1 || is_dead()) return
+    run_line[++run_jumps] = here
+    if (run_jumps > 1) for (i = 1; i <= run_jumps; i++) in_table[run_line[i]] = 1
+    if (body_begins) first_jump[body_begins] = here
+    body_begins = 0
+}
+
+# A statement that may be a part of a table.
+function note_filler() {
+    if (walk_number == 1 && !is_dead()) body_begins = 0
+}
+
+function note_call(name,    i, m) {
+    if (walk_number != 1 || is_dead()) return
+    m = name in macro_line ? macro_line[name] : 0
+    if (!(m in last_jump)) { end_run(); return }
+    if (!(m in first_jump)) run_jumps = 0
+    else if (run_jumps > 0) {
+        for (i = 1; i <= run_jumps; i++) in_table[run_line[i]] = 1
+        in_table[first_jump[m]] = in_table[last_jump[m]] = 1
+    }
+    run_line[++run_jumps] = last_jump[m]
+    body_begins = 0
+}
+
+function begin_body(is_macro) {
+    if (walk_number != 1) return
+    if (is_macro) run_jumps = 0
+    body_begins = here
+}
+
+function end_body(begins, is_macro,    i) {
+    if (walk_number != 1) return
+    if (run_jumps > 0) {
+        if (is_macro) last_jump[begins] = run_line[run_jumps]
+        # The next repetition follows.
+        else if (begins in first_jump) for (i = 1; i <= run_jumps; i++) in_table[run_line[i]] = 1
+    }
+    if (is_macro) run_jumps = 0
+    body_begins = 0
+}
+
 # Notes how many bytes a line has at least.
 function note_least(n,    k) {
     if (walk_number != 1) return
@@ -897,15 +1015,15 @@ function note_least(n,    k) {
 function shifts_by_parameter(    k, key) {
     if (out_parameter == "") return 0
     k = is_parameter(out_parameter)
-    key = from == "m80" ? toupper(out_parameter) : out_parameter
+    key = folded(out_parameter)
     if (!k || !((k, key) in number_of_parameter)) return 0
     shifts[macro_of[k], number_of_parameter[k, key]] = 1
     return 1
 }
 
 # Whether two operands give an operator the same value with signs and 32 bits as without them and 16.
-function is_plain(known, v, plain) {
-    return known ? v >= 0 && v < 65536 : plain
+function is_plain(known, v, unless_known) {
+    return known ? v >= 0 && v < 65536 : unless_known
 }
 
 function signs_matter(op, lk, lv, lplain, rk, rv, rplain) {
@@ -918,7 +1036,7 @@ function signs_matter(op, lk, lv, lplain, rk, rv, rplain) {
 
 function plain_result(op, lk, lv, lplain, lp, rk, rv, rplain, rp,    l, r) {
     l = is_plain(lk, lv, lplain); r = is_plain(rk, rv, rplain)
-    if (op ~ /^(EQ|NE|LT|LE|GT|GE|&&|\|\|)$/) return 1
+    if (op ~ /^(EQ|NE|LT|LE|GT|GE|&&|\|\|)$/) return from != "sjasmplus"
     if (op == "AND") return l || r
     if (op ~ /^(\/|MOD|SHR|OR|XOR)$/) return l && r
     if (op == "+") return l && rk || lk && r
@@ -936,7 +1054,8 @@ function parse_level(least,    op, lt, ll, lk, lv, lo, lp, lplain, plain_now, lb
         lt = out_text; ll = out_level; lk = out_known; lv = out_value; lo = out_ours; lp = out_place; lplain = out_plain; lbase = out_base; loffset = out_offset; lwide = out_wide
         # Comparisons of z80asm group to the right.
         parse_level(tight[op] + !(from == "z80asm" && ours[binary[op]] == 5))
-        if (binary[op] ~ /^SH/ && (from == "pasmo" || from == "m80") && (out_known ? out_value > 31 : !shifts_by_parameter())) wrong = "a shift by a number that is not known"
+        if (binary[op] ~ /^SH/ && (from == "pasmo" || from == "m80" ? (out_known ? out_value > 31 : !shifts_by_parameter()) : !out_known && out_plain)) wrong = "a shift by a number that is not known"
+        if (intel && binary[op] ~ /^SH/ && out_known && out_value > 16) wrong = "a shift by more than 16 bits"
         note_calculated()
         if (signs_matter(binary[op], lk, lv, lplain, out_known, out_value, out_plain)) wrong = "a value that may be negative, in a division, shift or comparison"
         plain_now = plain_result(binary[op], lk, lv, lplain, lp, out_known, out_value, out_plain, out_place)
@@ -951,9 +1070,9 @@ function parse_level(least,    op, lt, ll, lk, lv, lo, lp, lplain, plain_now, lb
 }
 
 # CONDITION ? ONE : OTHER. If the condition is known, one of them; else both, masked.
-function choice(    t, level, known, v, one, one_level, one_known, one_value, one_ours, one_place, place) {
+function choice(    t, level, known, v, one, one_level, one_known, one_value, one_ours, one_place, in_place) {
     note_calculated()
-    t = out_text; level = out_level; known = out_known; v = out_value; place = out_place
+    t = out_text; level = out_level; known = out_known; v = out_value; in_place = out_place
     p++
     parse_level(0)
     note_calculated()
@@ -971,7 +1090,7 @@ function choice(    t, level, known, v, one, one_level, one_known, one_value, on
         return
     }
     out_text = wrapped(t, level, 6) " NE 0 AND " wrapped(one, one_level, 4) " OR " wrapped(t, level, 6) " EQ 0 AND " wrapped(out_text, out_level, 4)
-    out_level = 2; out_known = 0; out_place = place || one_place || out_place
+    out_level = 2; out_known = 0; out_place = in_place || one_place || out_place
 }
 
 function number_text(v) {
@@ -980,7 +1099,7 @@ function number_text(v) {
 
 # A whole expression, from one token to another.
 function parse(a, b,    v) {
-    p = a; last = b
+    p = parse_first = a; last = b
     parse_level(0)
     if (p <= b && !wrong && value_of[p] == "?" && kind_of[p] == "o" && (from == "pasmo" || from == "z80asm")) choice()
     if (p <= b && !wrong) wrong = "an expression that it does not know"
@@ -995,7 +1114,7 @@ function parse(a, b,    v) {
 # As parse, for a place that holds one byte: what the other assembler cuts off is cut off here by LOW.
 function parse_byte(a, b) {
     parse(a, b)
-    if ((out_place || out_known && out_ours > 255 && out_ours < 65408) && out_text !~ /^(LOW|HIGH) / ) {
+    if ((out_place || out_known && out_ours > 255 && out_ours < 65408) && !(out_level == 8 && out_text ~ /^(LOW|HIGH) /)) {
         out_text = "LOW " wrapped(out_text, out_level, 9)
         out_level = 8
     }
@@ -1048,7 +1167,7 @@ function one_name(v) {
 }
 
 # A displacement from IX or IY: its tokens begin with a sign.
-function displacement(a, b,    sign, t) {
+function displacement(a, b,    sign, t, k) {
     if (a > b) return ""
     sign = value_of[a]
     if (sign != "+" && sign != "-") { wrong = "a displacement that it does not know"; return "" }
@@ -1057,6 +1176,12 @@ function displacement(a, b,    sign, t) {
         parse(a + 1, b)
         note_calculated()
         t = wrapped(out_text, out_level, 7)
+        # Whether M80 takes -5+2 for -7 or for -3 is not known here.
+        for (k = a + 2; k <= b && from == "m80" && sign == "-"; k++) {
+            if (value_of[k - 1] == "(" && kind_of[k - 1] == "o") k = partner(k - 1, b)
+            if (k && value_of[k] ~ /^[+-]$/ && kind_of[k] == "o") wrong = "a displacement that can be read in two ways"
+            if (!k) break
+        }
         byte_value = sign == "-" ? -out_value : out_value
         return sign t
     }
@@ -1091,7 +1216,7 @@ function read_operand(a, b, n,    v, k, had, value) {
         text_of[n] = "(" value_of[b - 1] shift_of[n] ")"
         return
     }
-    if (!value && (value_of[a] == "(" || value_of[a] == "[") && kind_of[a] == "o" && partner(a, b) == b && !(from == "z80asm" && value_of[a] == "[")) {
+    if (!value && !intel && (value_of[a] == "(" || value_of[a] == "[") && kind_of[a] == "o" && partner(a, b) == b && !(from == "z80asm" && value_of[a] == "[")) {
         what_of[n] = "m"
         if (a + 1 == b - 1 && is_register(a + 1)) {
             name_of[n] = toupper(value_of[a + 1])
@@ -1132,6 +1257,8 @@ function read_operand(a, b, n,    v, k, had, value) {
     text_of[n] = out_text
     level_of[n] = out_level; place_of[n] = out_place; known_of[n] = out_known; worth_of[n] = out_ours
     if (a == b && kind_of[a] == "i") name_of[n] = value_of[a]
+    # An argument in parentheses is no memory after #.
+    if (value && a == b && is_parameter(value_of[a])) { text_of[n] = "+" text_of[n]; level_of[n] = 8 }
     # So that a value that begins with a parenthesis is none in memory.
     if (text_of[n] ~ /^\(/ && ends_with_partner(text_of[n])) text_of[n] = "+" text_of[n]
 }
@@ -1192,7 +1319,8 @@ function run(first, final,    i) {
         here = i
         if (walk_number == 1) block_at[i] = macros ? block_of[macros] : 0
         jump_to = 0
-        if (ended && file_of[i] == ended) { if (walk_number == 2) print ";" line[i]; i++; continue }
+        # What the main file includes after its END is not read either.
+        if (ended && (file_of[i] == ended || ended == 1)) { if (walk_number == 2) print ";" line[i]; i++; continue }
         one_line(replaced(line[i]))
         i = jump_to ? jump_to : i + 1
     }
@@ -1200,10 +1328,12 @@ function run(first, final,    i) {
 
 # ---- Branches
 #
-# if_state has a number for each IF that is open: 1 if the branch is taken, 0 if it is not, -1 if that is not known.
+# if_state has a number for each IF that is open: 1 if the branch is taken, 0 if it is not, -1 if that is not known. chained has how
+# many more its ENDIF closes, for an IF that was an ELSEIF.
 
-function open_if(state) {
+function open_if(state, links) {
     if_state[++if_depth] = state
+    chained[if_depth] = links + 0
 }
 
 function other_branch() {
@@ -1255,7 +1385,7 @@ function put_for(s, name, item,    out, i, c, quote, word) {
             word = ""
             while (i <= length(s) && substr(s, i, 1) ~ /[A-Za-z0-9_?@.$]/) word = word substr(s, i++, 1)
             i--
-            out = out (word == name || from == "m80" && toupper(word) == toupper(name) ? item : word)
+            out = out (folded(word) == folded(name) ? item : word)
             continue
         } else if (substr(s, i, 2) == "##" && from == "pasmo") { i++; sub(/[ \t]+$/, "", out); while (substr(s, i + 1, 1) ~ /[ \t]/) i++; continue }
         out = out c
@@ -1279,8 +1409,20 @@ function end_of_block(    i, depth, t) {
     depth = 1
     for (i = here + 1; i <= lines; i++) {
         t = bare(line[i])
-        if (t ~ / \.?(MACRO|REPT|DUP|IRP|IRPC) /) depth++
-        else if (t ~ / (\.?ENDM|EDUP|ENDR) /) if (--depth == 0) return i
+        if (t ~ / \.?(MACRO|REPT|IRP|IRPC) / || from == "sjasmplus" && t ~ / DUP /) depth++
+        else if (t ~ / \.?ENDM / || from == "sjasmplus" && t ~ / (EDUP|ENDR) /) if (--depth == 0) return i
+    }
+    return 0
+}
+
+# Whether the branch of the IF whose line is here only prints: M80 assembles IF2 in its second pass.
+function says_only(    i, depth, t) {
+    depth = 1
+    for (i = here + 1; i <= lines; i++) {
+        t = bare(line[i])
+        if (t ~ /^ *(IF|COND )/) depth++
+        else if (t ~ /^ *(ENDIF|ENDC) / || depth == 1 && t ~ /^ *ELSE/) { if (--depth == 0) return 1 }
+        else if (t !~ /^ *(ELSE |\.[A-Z]+ |$)/ || t ~ /^ *\.(RADIX|COMMENT|PHASE|DEPHASE|8080|Z80) /) return 0
     }
     return 0
 }
@@ -1328,8 +1470,10 @@ function drop_names(level,    k, part) {
 function walk(number) {
     walk_number = number
     in_comment = 0; scope = 0; above = ""; macros = 0; procs = 0; proc_count = 0; radix = 10; lists = 0; ended = 0; said_org = 0
-    if_depth = 0
-    segment = from == "m80" ? "CSEG" : "_CODE"; last_filled = ""; split("", filled)
+    # A source without .Z80 in which words of the 8080 are is one of the 8080, as M80 takes it.
+    mode_8080 = number == 2 && begins_8080; says_z80 = 0
+    if_depth = 0; run_jumps = 0; body_begins = 0
+    segment = from == "m80" ? "CSEG" : "_CODE"; last_filled = ""; is_moved = 0; split("", filled); split("", absolute)
     split("", seen); split("", counter); split("", parameter); split("", parameter_now); split("", own_of); split("", constant); split("", constant_ours); split("", stack)
     run(1, lines)
     if (number == 2 && in_comment) mark("", "a comment without an end")
@@ -1338,6 +1482,9 @@ function walk(number) {
 function one_line(s,    at, k, start, depth) {
     remark = ""
     marked = 0
+    # A file that is included in a comment is not read, so its lines do not end the comment.
+    if (in_comment && file_of[here] != comment_file) { if (walk_number == 2) plain(";" s); return }
+    comment_file = file_of[here]
     if (in_comment == 1) {
         at = index(s, "*/")
         if (!at) { if (walk_number == 2) print ";" s; return }
@@ -1352,9 +1499,17 @@ function one_line(s,    at, k, start, depth) {
         return
     }
     source = s
+    if (intel && s ~ /^\$[ \t]*[-+*A-Za-z]/ && toupper(s) !~ /^\$INCLUDE/) { if (walk_number == 2) plain(";" s); return }
     cut(s)
+    if (intel && comment ~ /!/ && walk_number == 2 && has_statement(comment)) { mark("", "ASM reads a statement after the ! of a comment"); return }
     line_wrong = wrong
-    if (tokens == 0 && !wrong) { if (walk_number == 2) plain(comment == "" ? "" : substr(s, 1, tail - 1) comment); return }
+    if (tokens == 0 && !wrong) {
+        s = substr(s, 1, tail - 1)
+        # A line number of ASM.
+        if (intel) sub(/^[ \t]*[0-9]+/, "", s)
+        if (walk_number == 2) plain(comment == "" ? "" : s comment)
+        return
+    }
     if (from == "sjasmplus") {
         # Statements of one line, divided by colons.
         start = 1; parts = 0
@@ -1393,6 +1548,7 @@ function label_end(a, b,    v, w) {
     }
     if (from == "sdas" && (w == "==" || meaning(w) == "EQU2")) return a
     if (w == "SET" && from == "m80") return a
+    if (intel) return intel_label(a, b, v, w)
     if ((v in instruction) || (v in does) || (known_as(value_of[a]) in macro)) return 0
     if (from == "pasmo") {
         for (w = macros; w > 0; w--) if ((w, value_of[a]) in parameter) return begin_of[a] == 1 ? a : 0
@@ -1418,22 +1574,28 @@ function trouble_with_parameters(a, b,    k, t, part, n, i) {
     return ""
 }
 
-function statement(a, b,    k, label, public, word, does_it, a_first) {
+function statement(a, b,    k, label, public, word, does_it, a_first, why) {
     k = label_end(a, b)
     label = ""; public = 0; a_first = a
-    if (from == "z80asm" && macros && walk_number == 2 && inside_of_word(a, b)) { mark("", "a parameter inside of a longer word"); return }
+    if (from == "z80asm" && macros && walk_number == 2) {
+        if (inside_of_word(a, b)) { mark("", "a parameter inside of a longer word"); return }
+        if (is_twice()) { mark("", "z80asm damages a line that has a parameter twice"); return }
+    }
     if (k) {
         label = value_of[a]
         public = value_of[k] == "::"
         if (from == "sjasmplus" && begin_of[a] == 1 && (toupper(label) in instruction) && value_of[k] != ":") { k = 0; label = "" }
     }
     a = k ? k + 1 : a
+    if (intel && walk_number == 2 && label != "" && a > b && a == a_first + 1 && !is_label_alone(a_first)) { mark("", "a word that it does not know"); return }
+    if (intel && walk_number == 2 && label != "" && (folded(label) in register) && !is_parameter(label)) { mark(label, "a label with the name of a register"); return }
+    if (intel && walk_number == 2 && label != "" && !is_parameter(label) && same_to_asm(label) != "") { mark(label, "ASM reads sixteen characters of a name, which are those of " same_to_asm(label)); return }
     # A line that is no more than a label.
     if (a > b) { place(label, public); if (walk_number == 2) { if (line_wrong) mark(label, line_wrong); else say(label, "") } return }
     word = kind_of[a] == "i" ? toupper(value_of[a]) : value_of[a]
     does_it = meaning(word)
     if (word == "=" && kind_of[a] == "o" || from == "sdas" && word == "==") does_it = "SETEQ"
-    if (word == "SET" && from == "m80" && label != "" && k == a - 1 && value_of[k] != ":") does_it = "DEFL"
+    if (word == "SET" && from == "m80" && label != "" && k == a - 1 && (intel || value_of[k] != ":")) does_it = "DEFL"
     if (known_as(value_of[a]) in macro && kind_of[a] == "i" && does_it !~ /^(ENDM|MACRO)$/) does_it = "CALL"
     if (from == "sjasmplus" && begin_of[a] == 1 && (word in instruction) && walk_number == 2) {
         mark(label, "sjasmplus takes a word in the first column for a label")
@@ -1441,10 +1603,16 @@ function statement(a, b,    k, label, public, word, does_it, a_first) {
     }
     if (does_it ~ /^(EQU|EQU2|DEFL|SETEQ|MACRO)$/) { if (public) public_name(label) }
     else if (label != "") place(label, public)
-    if (walk_number == 2 && !keep && (here in uncertain)) { mark(label, uncertain[here]); return }
-    if (macros && walk_number == 2 && does_it != "ENDM" && (k = trouble_with_parameters(a_first, b)) != "") { mark(label, k); if (does_it ~ /^(IF|ELSE|REPT)/) directive(label, word, does_it, a, b); return }
-    if (from == "m80" && (macros || lists)) for (k = a; k <= b; k++) if (kind_of[k] == "s" && index(value_of[k], "&")) { mark(label, "pasting by & in a string"); return }
-    if (line_wrong && does_it !~ /^(DROP|COMMENT|INCLUDE)$/) { if (walk_number == 2) mark(label, line_wrong); return }
+    # The list of an IRPC is characters, not numbers.
+    if (line_wrong == no_number && word == "IRPC" && does_it == "IRP") line_wrong = wrong = ""
+    why = ""
+    if (line_wrong && does_it !~ /^(DROP|COMMENT|INCLUDE|RADIX)$/) why = line_wrong
+    if (from == "m80" && (macros || lists)) for (k = a; k <= b; k++) if (kind_of[k] == "s" && index(value_of[k], "&")) why = "pasting by & in a string"
+    if (macros && walk_number == 2 && does_it != "ENDM" && (k = trouble_with_parameters(a_first, b)) != "") why = k
+    if (walk_number == 2 && !keep && (here in uncertain)) why = uncertain[here]
+    # A block is opened all the same: its end will come.
+    if (why != "" && does_it !~ /^(IF|ELSEIF|REPT|MACRO|IRP)/) { mark(label, why); return }
+    wrong = why
     directive(label, word, does_it, a, b)
 }
 
@@ -1462,6 +1630,18 @@ function inside_of_word(a, b,    k, t, part, name) {
     return 0
 }
 
+# Whether a line has a parameter twice, be it in its comment: z80asm 1.8 replaces the last one alone, and cuts a letter off the others.
+function is_twice(    k, part, at) {
+    for (k in parameter) {
+        split(k, part, SUBSEP)
+        # A label such as .here is one of the call.
+        if (part[2] ~ /^\./) continue
+        at = index(source, part[2])
+        if (at && at < tail && index(substr(source, at + length(part[2])), part[2])) return 1
+    }
+    return 0
+}
+
 function public_name(label) {
     if (walk_number == 1) exported[known_as(label)] = 1
     else if (!(known_as(label) in said_public)) { said_public[known_as(label)] = 1; print "\tPUBLIC\t" name_for(label) }
@@ -1470,6 +1650,7 @@ function public_name(label) {
 # Defines a label at its place.
 function place(label, public,    k) {
     if (label == "") return
+    end_run()
     if (from == "sdas" && label !~ /\$$/ && walk_number > 0) scope++
     if (from == "sjasmplus" && label ~ /^[0-9]+$/) { counter[label + 0]++; counted[label + 0] = 1; return }
     if (from == "sjasmplus" && label !~ /^\./ && !macros) above = label ~ /^@/ ? substr(label, 2) : label
@@ -1503,7 +1684,10 @@ function say(label, text,    s, note) {
     s = label == "" ? "" : name_for(label) ":"
     if (text != "") s = s (flush_left ? "" : "\t") text
     flush_left = 0
-    if (text != "" && text !~ /^(EQU|PUBLIC|EXTRN|END|ORG|IF|ELSE|REPT|LOCAL)/ && !macros) { filled[segment] = 1; last_filled = segment }
+    if (text != "" && text !~ /^(EQU|PUBLIC|EXTRN|END|ORG|IF|ELSE|REPT|LOCAL)/ && !macros) {
+        filled[segment] = 1; last_filled = segment
+        if (!(segment in absolute)) is_moved = 1
+    }
     if (s == "" && note == "") return
     if (length(s) + length(note) > 240 && note != "") { plain(note); note = "" }
     if (note != "") s = s (s == "" ? "" : "\t") note
@@ -1563,19 +1747,28 @@ function say_alone(label, text) {
 # ---- Directives
 
 # Whether a directive goes on with a segment after lines of another one. Other linkers join the parts of a segment; here they stay where
-# they are. M80's data would come to stand before the code.
+# they are. L80 and sdld put the code first, so data before it would come to stand in the wrong place. An absolute area of sdas has an
+# address of its own.
 function is_late_segment(word, a,    to) {
     if (from == "m80" && toupper(word) ~ /^(CSEG|DSEG|ASEG)$/) to = toupper(word)
     else if (from == "sdas" && toupper(word) == ".AREA") to = value_of[a + 1]
     else return 0
     if (to == segment) return 0
     segment = to
-    return last_filled != to && ((to in filled) || from == "m80" && to == "CSEG" && last_filled != "")
+    if (from == "sdas" && toupper(source) ~ /\([^)]*ABS/) absolute[to]
+    return last_filled != to && ((to in filled) || is_moved && (to == "CSEG" || to == "_CODE"))
+}
+
+# Why an expression cannot be known in time: an address, or a name of no line.
+function at_an_address(what, a, b,    k) {
+    for (k = a; k <= b; k++) if (kind_of[k] == "i" && value_of[k] != "$" && !(toupper(value_of[k]) in prefix) && !(toupper(value_of[k]) in binary) &&
+        !(known_as(value_of[k]) in defined) && !(known_as(value_of[k]) in external) && !is_parameter(value_of[k])) return what " with a name that no line defines"
+    return what " that depends on an address"
 }
 
 function names_after(a, b, list,    k, n) {
     n = 0
-    for (k = a; k <= b; k++) if (kind_of[k] == "i") list[++n] = value_of[k]
+    for (k = a; k <= b; k++) if (kind_of[k] == "i") { list[++n] = value_of[k]; referred[known_as(value_of[k])] = 1 }
     return n
 }
 
@@ -1593,14 +1786,18 @@ function note_constant(name, a, b,    key) {
     if (out_base != "" && out_base != "?" && out_base != key && !is_parameter(name)) { base_of[key] = out_base; offset_of[key] = out_offset }
 }
 
-function data_items(a, b, bytes,    k, start, depth, s, item) {
+function data_items(a, b, bytes,    k, start, depth, s, item, n) {
     s = ""; start = a; depth = 0; item_at = 0; item_bytes = 0
     for (k = a; k <= b + 1; k++) {
         if (k == b + 1 || value_of[k] == "," && kind_of[k] == "o" && depth == 0) {
             if (from == "sdas" && start > a) item_at += bytes ? 1 : 2
             if (from == "sdas" && value_of[start] == "#" && kind_of[start] == "o") start++
+            if (intel && start > a) for (n = start; n < k; n++) if (value_of[n] == "$" && kind_of[n] == "i") wrong = "$ after the first item: assemblers differ on its address"
             item_bytes += !bytes ? 2 : start == k - 1 && kind_of[start] == "s" ? length(value_of[start]) : 1
-            if (bytes && start == k - 1 && kind_of[start] == "s") item = string_items(value_of[start])
+            if (bytes && start == k - 1 && kind_of[start] == "s") {
+                item = string_items(value_of[start])
+                if (item == "" && from == "m80") wrong = "an empty string"
+            }
             else if (start > k - 1) { if (k == b + 1 && s != "" && from == "sjasmplus") break; wrong = "an empty item"; item = "" }
             else { if (bytes) parse_byte(start, k - 1); else parse(start, k - 1); item = out_text }
             if (item == "" && !wrong) { start = k + 1; continue }
@@ -1613,7 +1810,9 @@ function data_items(a, b, bytes,    k, start, depth, s, item) {
     return s
 }
 
-function directive(label, word, what, a, b,    s, k, n, list, t, dollar, name, path) {
+function directive(label, word, what, a, b,    s, k, n, list, t, links) {
+    if (what ~ /^D[BWCSZ]/) note_filler()
+    else if (what ~ /^(ORG|INCBIN|MARK)$/) end_run()
     if (what == "DB") {
         s = data_items(a + 1, b, 1)
         if (from == "sdas" && !(word in delimited)) for (k = a + 1; k <= b; k++) if (kind_of[k] == "s" && length(value_of[k]) > 1) wrong = "a string of which sdas takes the first character"
@@ -1640,7 +1839,7 @@ function directive(label, word, what, a, b,    s, k, n, list, t, dollar, name, p
         if (what == "DSW") note_calculated()
         s = what == "DSW" ? "2*" wrapped(out_text, out_level, 8) : out_text
         if (out_known && what == "DS") note_least(out_ours)
-        if (out_place) wrong = "a size that depends on an address"
+        if (out_place && !wrong) wrong = at_an_address("a size", n, k - 1)
         if (k <= b && !wrong) { parse_byte(k + 1, b); s = s "," out_text }
         if (wrong) mark(label, wrong); else say(label, "DS\t" s)
     } else if (what == "EQU" || what == "SETEQ" || what == "EQU2") {
@@ -1669,6 +1868,7 @@ function directive(label, word, what, a, b,    s, k, n, list, t, dollar, name, p
         defined[known_as(label)] = "EQU"
         if (wrong) mark(label, wrong); else say_name(name_for(label) "\tEQU\t" out_text)
     } else if (what == "ORG") {
+        if (intel && skips_bytes(a + 1, b)) { if (wrong) mark(label, wrong); else say(label, "DS\t" out_text); return }
         parse(a + 1, b)
         if (wrong) mark(label, wrong)
         else if (out_known && out_ours == 256 && !said_org) { said_org = 1; say_alone(label, "ORG\t" out_text) }
@@ -1684,7 +1884,12 @@ function directive(label, word, what, a, b,    s, k, n, list, t, dollar, name, p
             s = s (s == "" ? "" : ",") name_for(list[k])
         }
         if (s == "" && !wrong) { say(label, ""); return }
-        if (from == "pasmo") { say(label, ""); return }
+        if (from == "pasmo") {
+            # It writes a file of one module, so the names are public to nothing.
+            if (walk_number == 2 && label != "") print name_for(label) ":"
+            if (walk_number == 2) plain(";" source)
+            return
+        }
         if (wrong) mark(label, wrong); else say_alone(label, what "\t" s)
     } else if (what == "GLOBL") {
         n = names_after(a + 1, b, list)
@@ -1696,15 +1901,35 @@ function directive(label, word, what, a, b,    s, k, n, list, t, dollar, name, p
         }
         if (walk_number == 1) for (k = 1; k <= n; k++) if (!(list[k] in defined)) external[list[k]] = 1
     } else if (what == "END") {
+        if (b > a) referred[known_as(value_of[b])] = 1
+        # In a branch that is not taken it does nothing, there or here.
+        if (is_dead()) { say(label, "END"); return }
+        if (is_unsure()) { mark(label, "an END in a macro, or in an IF of unknown condition"); return }
         ended = file_of[here]
         if (walk_number == 2 && file_of[here] == 1) say_wanted()
         if (label != "" && walk_number == 2) print name_for(label) ":"
         if (from == "m80" && b == a + 1 && what_is(known_as(value_of[b])) == "LABEL") say("", "END\t" name_for(value_of[b]))
-        else if (file_of[here] > 1) { ended = 0; say("", "") }
-        else say("", "END")
-    } else if (what == "IF" || what == "IFNOT" || what == "IF1" || what == "IF2" || what == "IFDEF" || what == "IFNDEF") {
+        else if (file_of[here] > 1) { ended = 0; say("", ""); if (walk_number == 2) plain(";" source) }
+        else { if (b > a) remark = remark " " substr(source, begin_of[a], end_of[b] - begin_of[a] + 1) ": the entry is left out"; say("", "END") }
+        # An IF that is open is closed after it.
+        if (ended && walk_number == 2) for (k = if_depth; k > 0; k--) print "\tENDIF"
+    } else if (what == "IF" || what == "IFNOT" || what == "IF1" || what == "IF2" || what == "IFDEF" || what == "IFNDEF" || what == "ELSEIF") {
+        # An IF in the ELSE branch of the one before; its ENDIF closes both.
+        k = 0
+        if (what == "ELSEIF") {
+            if (if_depth == 0) { mark(label, "ELSEIF without IF"); return }
+            k = 1 + chained[if_depth]
+            other_branch()
+            if (walk_number == 2 && label != "") print name_for(label) ":"
+            if (walk_number == 2) print "\tELSE"
+            label = ""
+        }
+        links = k
         if (what == "IF1") { s = "1"; n = 1 }
-        else if (what == "IF2") { s = "0"; n = 0 }
+        else if (what == "IF2") {
+            s = "0"; n = 0
+            if (!says_only()) wrong = "IF2 with more than messages"
+        }
         else if (what ~ /DEF/) {
             k = is_seen(value_of[a + 1])
             remark = " " value_of[a] " " value_of[a + 1]
@@ -1715,21 +1940,34 @@ function directive(label, word, what, a, b,    s, k, n, list, t, dollar, name, p
             n = !out_known ? -1 : what == "IFNOT" ? out_value == 0 : out_value != 0
             if (what == "IFNOT") note_calculated()
             if (out_wide) wrong = too_wide
+            if (intel && out_known && out_value != 0 && out_value % 2 == 0) wrong = doubtful_condition
+            if (intel && out_parameter != "") note_condition(out_parameter)
             if (out_known && (out_value != 0) != (out_ours != 0)) { out_text = out_value != 0 ? "1" : "0"; out_level = 9 }
             s = what == "IFNOT" ? wrapped(out_text, out_level, 6) " EQ 0" : out_text
-            if (out_place) wrong = "a condition that depends on an address"
+            if (out_place && !wrong) wrong = at_an_address("a condition", a + 1, b)
         }
         open_ifs[macros]++
-        open_if(wrong ? -1 : n)
+        open_if(wrong ? -1 : n, links)
+        if (wrong && what == "ELSEIF") {
+            # The mark is at an IF, so that what follows is not taken for a part of the branch before.
+            s = "\tIF" substr(source, end_of[a] + 1)
+            tail += length(s) - length(source)
+            source = s
+        }
         if (wrong) mark(label, wrong); else say_alone(label, "IF\t" s)
     } else if (what == "ELSE") {
         other_branch()
         say_alone(label, "ELSE")
-    } else if (what == "ENDIF") { open_ifs[macros]--; close_if(); say_alone(label, "ENDIF") }
+    } else if (what == "ENDIF") {
+        if (walk_number == 2 && label != "") print name_for(label) ":"
+        for (k = if_depth > 0 ? chained[if_depth] : 0; k > 0; k--) { open_ifs[macros]--; close_if(); if (walk_number == 2) print "\tENDIF" }
+        open_ifs[macros]--; close_if(); say("", "ENDIF")
+    }
     else if (what == "REPT") repetition(label, a, b)
     else if (what == "MACRO") begin_macro(label, a, b)
     else if (what == "ENDM") {
         is_endm[here] = 1
+        if (macros) end_body(block_of[macros], stack[macros] != "REPT")
         if (from == "pasmo") while (macros > 0 && open_ifs[macros]-- > 0) if (walk_number == 2) print "\tENDIF"
         for (k in parameter) { split(k, list, SUBSEP); if (list[1] == macros) delete parameter[k] }
         if (macros > 0) { if_depth = if_base[macros]; macros-- }
@@ -1755,6 +1993,7 @@ function directive(label, word, what, a, b,    s, k, n, list, t, dollar, name, p
         if (procs > 0) procs--
         say(label, "")
     } else if (what == "DROP") {
+        if (word == ".Z80") { says_z80 = 1; mode_8080 = 0 }
         if (label != "" && walk_number == 2) print name_for(label) ":"
         if (walk_number == 2 && is_late_segment(word, a)) mark("", "code after data: lines stay in their order here")
         else if (walk_number == 2) plain(";" source)
@@ -1765,45 +2004,61 @@ function directive(label, word, what, a, b,    s, k, n, list, t, dollar, name, p
         if (!index(substr(t, 2), comment_mark)) in_comment = 2
         if (walk_number == 2) plain(";" source)
     } else if (what == "RADIX") {
-        k = radix; radix = 10
-        t = substr(source, end_of[a] + 1) + 0
-        radix = t == 16 || t == 8 || t == 2 ? t : 10
-        if (walk_number == 2) plain(";" source)
+        t = toupper(substr(source, end_of[a] + 1, tail - end_of[a] - 1))
+        gsub(/[ \t]/, "", t)
+        if (from == "m80") k = t == "2" || t == "8" || t == "10" || t == "16" ? t + 0 : 0
+        else k = t == "" || t == "D" ? 10 : t == "H" || t == "X" ? 16 : t == "O" || t == "Q" ? 8 : t == "B" ? 2 : 0
+        if (!is_dead()) radix = k ? k : 10
+        if (!k) mark(label, "a radix that it does not know")
+        else if (is_unsure() && !is_dead()) mark(label, "a radix in a macro, or in an IF of unknown condition")
+        else if (walk_number == 2) plain(";" source)
     } else if (what == "INCLUDE") {
         if (label != "" && walk_number == 2) print name_for(label) ":"
         if (here in included) { if (walk_number == 2) plain("; " source) }
-        else mark(label, "the file is not here")
+        else mark(label, here in alike ? "several files differ from this one in case alone" : "the file is not here")
     } else if (what == "INCBIN") {
         if (walk_number == 2) include_bytes(label, a, b)
     } else if (what == "IRP") over_list(label, word, a, b)
-    else if (what == "MARK") {
+    else if (what == "MARK" || what == "IFB") {
+        if (word == ".8080") mode_8080 = 1
         if (word ~ /^\.?IF/) { open_ifs[macros]++; open_if(-1) }
-        else if (word == "ELSEIF" && if_depth > 0) if_state[if_depth] = -1
-        mark(label, "no counterpart")
+        mark(label, what == "IFB" ? word ": whether an argument is empty" : intel && word == ".Z80" ? "the mnemonics of Zilog follow" : "no counterpart")
     }
     else if (what == "CALL") {
         if (walk_number == 1) call_of[here] = known_as(value_of[a])
+        note_call(known_as(value_of[a]))
         for (k = a + 1; k <= b; k++) if (kind_of[k] == "i" && is_parameter(value_of[k])) { out_parameter = value_of[k]; note_calculated() }
         as_argument = 1
         read_operands(a + 1, b)
         as_argument = 0
-        for (k = 1; k <= operands; k++) argument(known_as(value_of[a]), k)
+        for (k = 1; k <= operands; k++) { if (intel) intel_argument(known_as(value_of[a]), k); argument(known_as(value_of[a]), k) }
         s = ""
         for (k = 1; k <= operands; k++) s = s (k > 1 ? "," : "") (what_of[k] == "e" && text_of[k] ~ /^\+\(/ ? substr(text_of[k], 2) : text_of[k])
         if (wrong == "an empty operand") wrong = ""
         for (k = a + 1; k <= b; k++) if (value_of[k] == "<" || value_of[k] == "%" && from == "m80") wrong = "an argument in < >, or by its value"
         if (wrong) mark(label, wrong); else say(label, name_for(value_of[a]) (s == "" ? "" : "\t" s))
-    } else if (word in instruction) {
+    } else if (intel && (word in instruction)) intel_instruction(label, word, a, b)
+    else if (word in instruction) {
+        # JP and CP of the 8080 jump and call if the sign is plus.
+        if (from == "m80" && mode_8080 && (word == "JP" || word == "CP")) { mark(label, "an 8080 mnemonic, which is another instruction of the Z80"); return }
         note_least(word == "CALL" ? 3 : word ~ /^(JR|DJNZ)$/ ? 2 : 1)
         read_operands(a + 1, b)
+        if (word == "JP" && operands == 1 && what_of[1] != "r" && (what_of[1] != "m" || name_of[1] == "")) note_jump()
+        else if (operands == 0 && (word == "NOP" || word == "RET") || operands == 1 && (word == "JP" || word == "JR")) note_filler()
+        else end_run()
         instructions(label, word, value_of[a], a, b)
     } else {
+        end_run()
         for (k = macros; k > 0; k--) if ((k, known_as(value_of[a])) in parameter) {
+            if (intel) { mark(label, "a parameter as an instruction"); return }
             for (n = a; n <= b; n++) if (kind_of[n] == "i" && is_parameter(value_of[n])) { out_parameter = value_of[n]; note_calculated() }
             say(label, by_tokens(a, b))
             return
         }
-        mark(label, "a word that it does not know")
+        if (walk_number == 1 && (word in of_8080) && !says_z80) begins_8080 = 1
+        # Perhaps a condition: an ENDIF will come for it.
+        if (word ~ /^\.?IF/) { open_ifs[macros]++; open_if(-1) }
+        mark(label, from == "m80" && !intel && (word in of_8080) ? "an 8080 mnemonic" : "a word that it does not know")
     }
 }
 
@@ -1846,7 +2101,7 @@ function changing(label, a, b,    key) {
 }
 
 function set_parameter(level, name,    key) {
-    key = from == "m80" ? toupper(name) : name
+    key = folded(name)
     parameter[level, key] = 1
     if ((level, toupper(name)) in name_in_case && name_in_case[level, toupper(name)] != name) wrong = "two parameters that differ in case alone"
     name_in_case[level, toupper(name)] = name
@@ -1863,6 +2118,7 @@ function begin_macro(label, a, b,    k, n, list, name, s, first, part) {
     macros++
     stack[macros] = block_of[macros] = here
     if (walk_number == 1) macro_line[known_as(name)] = here
+    begin_body(1)
     open_ifs[macros] = 0
     if_base[macros] = if_depth
     macro_of[macros] = known_as(name)
@@ -1872,10 +2128,10 @@ function begin_macro(label, a, b,    k, n, list, name, s, first, part) {
     for (k in name_in_case) { split(k, part, SUBSEP); if (part[1] == macros) delete name_in_case[k] }
     for (k = 1; k <= n; k++) {
         set_parameter(macros, list[k])
-        number_of_parameter[macros, from == "m80" ? toupper(list[k]) : list[k]] = k
+        number_of_parameter[macros, folded(list[k])] = k
         if (list[k] ~ /^\?/ && from == "sdas") wrong = "a parameter that makes a label"
-        if (toupper(list[k]) ~ /^(A|H|L|DB|DW|DS|JP|JR|IF|LOW|HIGH|NOT|AND|OR|XOR|MOD|SHL|SHR|EQ|NE|LT|LE|GT|GE)$/) wrong = "a parameter with a name that z80dev needs in what is written"
-        s = s (s == "" ? "" : ",") clean(list[k])
+        if (!intel && toupper(list[k]) ~ /^(A|H|L|DB|DW|DS|JP|JR|IF|LOW|HIGH|NOT|AND|OR|XOR|MOD|SHL|SHR|EQ|NE|LT|LE|GT|GE)$/) wrong = "a parameter with a name that z80dev needs in what is written"
+        s = s (s == "" ? "" : ",") parameter_text(list[k])
     }
     for (k = first; k <= b; k++) if (kind_of[k] == "o" && value_of[k] != ",") wrong = "a parameter with a default"
     if (walk_number == 1) { macro[known_as(name)] = 1; define(name, "MACRO") }
@@ -1890,7 +2146,12 @@ function begin_macro(label, a, b,    k, n, list, name, s, first, part) {
     name = name_for(name)
     macros = k
     say_name(name "\tMACRO" (s == "" ? "" : "\t" s))
-    if (walk_number == 2 && local_of[here] != "") print "\tLOCAL\t" substr(local_of[here], 2)
+    if (walk_number == 2 && local_of[here] != "") {
+        s = ""
+        n = split(substr(local_of[here], 2), list, ",")
+        for (k = 1; k <= n; k++) s = s (k > 1 ? "," : "") parameter_text(list[k])
+        print "\tLOCAL\t" s
+    }
 }
 
 # REPT. One that counts, or in which a name changes its value, is written out.
@@ -1899,7 +2160,7 @@ function repetition(label, a, b,    k, n, ends, part, count, name, first, step) 
     parse(a + 1, part[1] - 1)
     count = out_known ? out_ours : -1
     ends = end_of_block()
-    if (!wrong && out_place) wrong = "a number of repetitions that depends on an address"
+    if (!wrong && out_place) wrong = at_an_address("a number of repetitions", a + 1, part[1] - 1)
     if (!wrong && ends && (n > 1 || has_to_unroll(ends))) {
         if (count < 0 || count > 4096 || macro_depth()) wrong = "a repetition that counts or has names of its own, and cannot be written out"
         else {
@@ -1919,7 +2180,16 @@ function repetition(label, a, b,    k, n, ends, part, count, name, first, step) 
     stack[macros] = "REPT"; block_of[macros] = here
     open_ifs[macros] = 0
     if_base[macros] = if_depth
+    begin_body(0)
     if (wrong) mark(label, wrong); else say_alone(label, "REPT\t" out_text)
+}
+
+# Whether a parameter of a macro is a word of a text.
+function names_parameter(t,    n, part, i) {
+    gsub(/[^A-Za-z0-9_?@.$]/, " ", t)
+    n = split(t, part, " ")
+    for (i = 1; i <= n; i++) if (is_parameter(part[i])) return 1
+    return 0
 }
 
 # Whether this is the body of a macro.
@@ -1929,13 +2199,18 @@ function macro_depth(    k) {
 }
 
 # IRP and IRPC: the block is written out once for each item.
-function over_list(label, word, a, b,    ends, t, n, item, i, c, depth, begins, name, quote) {
+function over_list(label, word, a, b,    ends, t, n, item, i, c, depth, begins, name, quote, why) {
     ends = end_of_block()
     name = value_of[a + 1]
     t = substr(source, end_of[a + 1] + 1, tail - end_of[a + 1] - 1)
     sub(/^[ \t]*,[ \t]*/, "", t)
     sub(/[ \t]+$/, "", t)
+    why = ""
     if (t ~ /^<.*>$/) t = substr(t, 2, length(t) - 2)
+    # M80 takes what is between < and > as it is, also a semicolon; cut() took that for a comment.
+    else if (from == "m80" && (word == "IRP" || t ~ /^</)) why = "a repetition over a list"
+    # Brackets in a list hold an item together, ! and % have a meaning of their own.
+    if (from == "m80" && word == "IRP" && t ~ /[<>!%]/) why = "a repetition over a list"
     n = 1; item[1] = ""; depth = 0; quote = ""
     for (i = 1; i <= length(t); i++) {
         c = substr(t, i, 1)
@@ -1950,9 +2225,14 @@ function over_list(label, word, a, b,    ends, t, n, item, i, c, depth, begins, 
         item[n] = item[n] c
     }
     if (word == "IRPC") n--
-    if (!ends || word != "IRP" && from != "m80") {
+    # The other assembler puts the arguments of a macro in place of its parameters first, and then reads the list.
+    if (is_parameter(name) || names_parameter(t)) why = "a repetition over a parameter"
+    for (i = 1; i <= n && word == "IRPC"; i++) if (is_parameter(item[i])) why = "a repetition over a parameter"
+    if (!ends || word != "IRP" && from != "m80") why = "a repetition over a list"
+    if (wrong) why = wrong
+    if (why != "") {
         macros++; stack[macros] = "REPT"; block_of[macros] = here; open_ifs[macros] = 0; if_base[macros] = if_depth
-        mark(label, "a repetition over a list")
+        mark(label, why)
         return
     }
     say(label, "")
@@ -1983,8 +2263,8 @@ function include_bytes(label, a, b,    path, word, s, n, part, i, t, command, an
         if (substr(path, index(path, word) + 1) !~ /^[ \t]*$/) { mark(label, "a part of a file"); return }
         path = substr(path, 1, index(path, word) - 1)
     }
-    t = found_file(path, folder_of(file))
-    if (t == "") { mark(label, "the file is not here"); return }
+    t = found_file(path, folder_of(file), "")
+    if (t == "") { mark(label, several ? "several files differ from this one in case alone" : "the file is not here"); return }
     gsub(QUOTE, QUOTE "\\" QUOTE QUOTE, t)
     command = "od -An -v -tu1 " QUOTE t QUOTE
     plain("; " source)
@@ -2003,7 +2283,7 @@ function include_bytes(label, a, b,    path, word, s, n, part, i, t, command, an
 # An operand as a value, without the parentheses that stood around it.
 function as_value(k) {
     if (what_of[k] == "m" && name_of[k] == "") {
-        if (place_of[k] && inner_of[k] !~ /^(LOW|HIGH) /) return "LOW " wrapped(inner_of[k], inner_level[k], 9)
+        if (place_of[k] && !(inner_level[k] == 8 && inner_of[k] ~ /^(LOW|HIGH) /)) return "LOW " wrapped(inner_of[k], inner_level[k], 9)
         return ends_with_partner(inner_of[k]) && inner_of[k] ~ /^\(/ ? "+" inner_of[k] : inner_of[k]
     }
     return text_of[k]
@@ -2015,7 +2295,7 @@ function byte_text(k,    t) {
     else t = text_of[k]
     if (what_of[k] != "e") return t
     if (t ~ /^\+\(/) { t = substr(t, 2); level_of[k] = 9 }
-    if ((place_of[k] || known_of[k] && worth_of[k] > 255 && worth_of[k] < 65408) && t !~ /^(LOW|HIGH) /) return "LOW " wrapped(t, level_of[k], 9)
+    if ((place_of[k] || known_of[k] && worth_of[k] > 255 && worth_of[k] < 65408) && !(level_of[k] == 8 && t ~ /^(LOW|HIGH) /)) return "LOW " wrapped(t, level_of[k], 9)
     return ends_with_partner(t) && t ~ /^\(/ ? "+" t : t
 }
 
@@ -2053,6 +2333,9 @@ function halves(label, op,    k, s, which, t) {
 function instructions(label, word, op, a, b,    k, s, n, t, byte, c) {
     if (wrong) { mark(label, wrong); return }
     n = operands
+    # z80asm 1.8 takes AND A,5 for AND A, ADC A for ADC A,IXL, and in arithmetic IXH for IXL.
+    if (from == "z80asm" && (word ~ /^(AND|OR|XOR|CP)$/ && n == 2 && name_of[1] == "A" && name_of[2] != "A" || word ~ /^(ADC|SBC)$/ && n == 1 ||
+        word ~ /^(ADD|ADC|SUB|SBC|AND|OR|XOR|CP)$/ && (n > 0 && is_half(n)))) { mark(label, "z80asm makes another instruction of it"); return }
     # One operand more or less than Zilog writes.
     if ((word == "SUB" || word == "AND" || word == "OR" || word == "XOR" || word == "CP") && n == 2 && what_of[1] == "r" && name_of[1] == "A") { shift_operands(); n = 1 }
     if ((word == "ADD" || word == "ADC" || word == "SBC") && n == 1) { insert_a(); n = 2 }
@@ -2157,10 +2440,15 @@ function jump(label, word, op,    n, condition, to, simple, key, opcode) {
     if (what_of[n] == "r" && !(word == "CALL")) { mark(label, "no such instruction"); return }
     to = word_text(n)
     simple = what_of[n] == "e" && name_of[n] != "" && name_of[n] != "$"
+    if (simple) sub(/^\+/, "", to)
     key = known_as(name_of[n])
     if (word == "CALL") { say(label, op "\t" (n > 1 ? text_of[1] "," : "") to); return }
     if (word == "JP") {
         if ((keep || here in steps) && simple && (condition == "" || condition in short)) to = to "+0"
+        else if ((here in in_table) && simple && condition == "" && what_is(key) != "EQU") {
+            remark = remark " 3 bytes: it may be in a table of jumps"
+            to = to "+0"
+        }
         say(label, op "\t" (n > 1 ? text_of[1] "," : "") to)
         return
     }

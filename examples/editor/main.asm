@@ -1,4 +1,5 @@
-; EDITOR edits a text on the screen of an ADM-3A, a Kaypro or an Osborne 1.
+; EDITOR edits a text on the screen of an ADM-3A, a Kaypro or an Osborne 1, or
+; with VT52=1 on that of a VT52 or an H19.
 ;
 ;       EDITOR NAME.TXT
 ;

@@ -1,4 +1,4 @@
-z80dev build --with editor.inc --out editor main.asm keys.asm screen.asm files.asm text.asm
+z80dev build --define VT52=0 --with editor.inc --out editor main.asm keys.asm screen.asm files.asm text.asm
 z80dev check editor.siz editor.crt
 z80dev blank editor.img
 z80dev put --text editor.img letter.txt LETTER.TXT

@@ -9,9 +9,32 @@
 
 SHADOW  EQU     FREE
 
-; The codes of the terminal.
-CLEARALL EQU    1AH
-CLEARLINE EQU   18H
+; The codes of the terminal. make.sh chooses by --define whose they are: VT52=1 is
+; for a VT52 or an H19, VT52=0 for an ADM-3A, a Kaypro or an Osborne 1. CLEARALL
+; and CLEARLINE are the ends of subroutines.
+        IF      VT52
+MOVE    EQU     'Y'
+CLEARALL MACRO
+        LD      A,'H'           ; to the first place, and clear all after it
+        CALL    CODE
+        LD      A,'J'
+        JP      CODE
+        ENDM
+CLEARLINE MACRO
+        LD      A,'K'
+        JP      CODE
+        ENDM
+        ELSE
+MOVE    EQU     '='
+CLEARALL MACRO
+        LD      A,1AH
+        JP      PUT
+        ENDM
+CLEARLINE MACRO
+        LD      A,18H
+        JP      PUT
+        ENDM
+        ENDIF
 
 ; Clears the screen, and begins at the start of the text.
 CLEAR:  LD      HL,SHADOW
@@ -23,8 +46,7 @@ CLEAR:  LD      HL,SHADOW
         LD      (AT),HL
         CALL    FIRST
         LD      (TOP),HL
-        LD      A,CLEARALL
-        JP      PUT
+        CLEARALL
 
 ; Shows what has changed, unless a key waits, and moves the terminal's cursor.
 REFRESH:
@@ -395,9 +417,8 @@ SHOWROW9:
         LD      (HL),A
         INC     HL
         DJNZ    SHOWROW9
-        LD      A,CLEARLINE
         CALL    GOTO
-        JP      PUT
+        CLEARLINE
 
 ; Moves the terminal's cursor to line D, column E, unless it is there. Keeps A.
 GOTO:   PUSH    HL
@@ -408,7 +429,7 @@ GOTO:   PUSH    HL
         LD      (AT),DE
         LD      A,ESC
         CALL    PUT
-        LD      A,'='
+        LD      A,MOVE
         CALL    PUT
         LD      A,D
         ADD     A,' '
@@ -419,6 +440,14 @@ GOTO:   PUSH    HL
 GOTO1:  POP     AF
         POP     HL
         RET
+
+        IF      VT52
+; Prints ESC and the byte in A.
+CODE:   PUSH    AF
+        LD      A,ESC
+        CALL    PUT
+        POP     AF
+        ENDIF
 
 ; Prints the byte in A. Keeps BC, DE and HL.
 PUT:    PUSH    BC

@@ -7,3 +7,5 @@ mod Replayed
 pub mod OneRun
 mod TypedBefore
 mod OneSession
+mod Ordered
+mod Again

@@ -212,7 +212,7 @@ module _ {S C : Type 0} (sectors : S → Image) (faults : S → ℕ) (dialog : C
     ]
 
 -- a start has one answer, unless memory ran out
-one_refusal : (file : List ℕ) (words : List (List ℕ)) (refused other : StartFault) → refused ≢ fault.NoMemory → other ≢ fault.NoMemory → IsStart file words (Err refused) → IsStart file words (Err other) → other ≡ refused
+pub one_refusal : (file : List ℕ) (words : List (List ℕ)) (refused other : StartFault) → refused ≢ fault.NoMemory → other ≢ fault.NoMemory → IsStart file words (Err refused) → IsStart file words (Err other) → other ≡ refused
 one_refusal file words fault.ComTooLong fault.ComTooLong good fine one two = refl
 one_refusal file words fault.ComTooLong fault.TailTooLong good fine one two = absurd (let short = two.0 in omega (arith, one, short))
 one_refusal file words fault.TailTooLong fault.ComTooLong good fine one two = absurd (let short = one.0 in omega (arith, two, short))
@@ -221,12 +221,12 @@ one_refusal file words fault.NoMemory other good fine one two = absurd (good ref
 one_refusal file words fault.ComTooLong fault.NoMemory good fine one two = absurd (fine refl)
 one_refusal file words fault.TailTooLong fault.NoMemory good fine one two = absurd (fine refl)
 
-not_both : {A : Type 0} (file : List ℕ) (words : List (List ℕ)) (start : Cpu × List ℕ) (refused : StartFault) → refused ≢ fault.NoMemory → IsStart file words (Ok start) → IsStart file words (Err refused) → A
+pub not_both : {A : Type 0} (file : List ℕ) (words : List (List ℕ)) (start : Cpu × List ℕ) (refused : StartFault) → refused ≢ fault.NoMemory → IsStart file words (Ok start) → IsStart file words (Err refused) → A
 not_both file words start fault.ComTooLong good one two = absurd (let short = one.0 in omega (arith, two, short))
 not_both file words start fault.TailTooLong good one two = absurd (let short = one.1 in let long = two.1 in omega (arith, long, short))
 not_both file words start fault.NoMemory good one two = absurd (good refl)
 
-had_memory : (refused : StartFault) (end : Why) → end ≡ unstarted refused → IsUndisturbed end → refused ≢ fault.NoMemory
+pub had_memory : (refused : StartFault) (end : Why) → end ≡ unstarted refused → IsUndisturbed end → refused ≢ fault.NoMemory
 had_memory refused end is calm e = calm.memory (is ∙ ap unstarted e)
 
 module _ {S C : Type 0} (sectors : S → Image) (faults : S → ℕ) (dialog : C → Dialog) (one_step : OneStep) where

@@ -29,7 +29,7 @@ abbrev stepped : {S : Type 0} → RunState S Dialog → PlayState S → PlayStat
 stepped run s = record s { run = run; turns = s.turns + 1 }
 
 -- A session event by event: a step, one byte that came, or what was put is shown.
-data Walk {S : Type 0} (sectors : S → Image) (faults : S → ℕ) (start : PlayState S) : PlayState S → Type 0 where
+pub data Walk {S : Type 0} (sectors : S → Image) (faults : S → ℕ) (start : PlayState S) : PlayState S → Type 0 where
   begin : Walk sectors faults start start
   step : (old : PlayState S) (run : RunState S Dialog) → Walk sectors faults start old → is_finished old.run.machine.cpu.pc ≡ false → IsTurn sectors faults (λ d. d) old.run None run
       → Walk sectors faults start (stepped run old)
@@ -37,7 +37,7 @@ data Walk {S : Type 0} (sectors : S → Image) (faults : S → ℕ) (start : Pla
   show : (bytes : List ℕ) (old : PlayState S) → Walk sectors faults start old → old.run.system.terminal.console.output ≡ Some bytes → Walk sectors faults start (shown_too bytes old)
 
 -- lists that end with an element
-not_empty : {A B : Type 0} (xs : List A) (x : A) → [] ≡ xs ++ x ∷ [] → B
+pub not_empty : {A B : Type 0} (xs : List A) (x : A) → [] ≡ xs ++ x ∷ [] → B
 not_empty [] x e = absurd cc
 not_empty (y ∷ xs) x e = absurd cc
 
@@ -50,7 +50,7 @@ same_last (w ∷ xs) (z ∷ ys) x y e =
     let heads : w ≡ z = cc in
     (ap (λ l. w ∷ l) rest.0 ∙ ap (λ v. v ∷ ys) heads, rest.1)
 
-same_some : {A : Type 0} (x y : A) → ◌≡◌ {A = Option A} (Some x) (Some y) → x ≡ y
+pub same_some : {A : Type 0} (x y : A) → ◌≡◌ {A = Option A} (Some x) (Some y) → x ≡ y
 same_some x y e = cc
 
 module _ {S : Type 0} (sectors : S → Image) (faults : S → ℕ) where
@@ -80,7 +80,7 @@ module _ {S : Type 0} (sectors : S → Image) (faults : S → ℕ) where
       (subst (λ l. Walk sectors faults start (with_input mid l ((mid.arrivals ++ one) ++ arrived mid.turns bytes))) (append_assoc input (b ∷ []) bytes)
       (walk_bytes bytes start (typed b mid) (byte b mid walk)))
 
-  walk_of : {start s : PlayState S} → PlaysOn sectors faults start s → Walk sectors faults start s
+  pub walk_of : {start s : PlayState S} → PlaysOn sectors faults start s → Walk sectors faults start s
   walk_of (same s) = begin
   walk_of (goes n old mid run before steps) = walk_steps steps old mid (walk_of before)
   walk_of (came bytes old mid before) = walk_bytes bytes old mid (walk_of before)
@@ -181,7 +181,7 @@ module _ {S : Type 0} (sectors : S → Image) (faults : S → ℕ) (one_step : O
   Walk_b s = Walk sectors faults (first_state cpu memory other) s
 
   -- a step from sessions that look alike
-  step_both : (a b : PlayState S) (x y : RunState S Dialog) (o p : Option Why) → Goes_well o → Goes_well p → AlikeSessions sectors a b → IsTurn sectors faults (λ (d : Dialog). d) a.run o x → IsTurn sectors faults (λ (d : Dialog). d) b.run p y
+  pub step_both : (a b : PlayState S) (x y : RunState S Dialog) (o p : Option Why) → Goes_well o → Goes_well p → AlikeSessions sectors a b → IsTurn sectors faults (λ (d : Dialog). d) a.run o x → IsTurn sectors faults (λ (d : Dialog). d) b.run p y
       → (p ≡ o) × AlikeSessions sectors (stepped x a) (stepped y b)
   step_both a b x y o p well fine alike one two =
       let both = one_turn sectors faults (λ (d : Dialog). d) (Some (a.shown, b.shown)) one_step a.run b.run x y o p (record { machine = alike.machine; system = alike.system }) well fine one two in
@@ -218,7 +218,7 @@ module _ {S : Type 0} (sectors : S → Image) (faults : S → ℕ) (one_step : O
       typed_both sectors faults a old one b (ap (λ (v : Arrival). v.byte) both.1) (again old walk both.0 turns)
   from_byte a one again (show bytes old walk known) arrivals turns = shown_second sectors faults (typed one a) old bytes known (from_byte a one again walk arrivals turns)
 
-  alike : {a : PlayState S} → Walk_a a → Reaches a
+  pub alike : {a : PlayState S} → Walk_a a → Reaches a
   alike begin b walk arrivals turns = from_begin walk arrivals turns
   alike (step old run before going turn) b walk arrivals turns = from_step old run before (alike before) turn walk arrivals turns
   alike (byte one old before) b walk arrivals turns = from_byte old one (alike before) walk arrivals turns

@@ -1,5 +1,5 @@
 -- How a session follows a record.
-use Rattle.std.proofs.Common.{◌≡◌, ◌≢◌, ◌<◌, ◌≤◌, ◌+◌, ◌++◌, ◌∷◌, [], ℕ, Bool, true, false, List, Option, None, Some, Result, Ok, Err, length, slice_get, take, refl, sym, ap, subst, ◌∙◌, arith, inl, inr}
+use Rattle.std.proofs.Common.{◌≡◌, ◌<◌, ◌≤◌, ◌+◌, ◌++◌, ◌∷◌, [], ℕ, true, false, List, Option, None, Some, Result, Ok, Err, length, slice_get, take, refl, sym, ap, ◌∙◌, arith}
 use Rattle.std.proofs.lemmas.List.{take_more}
 use Rattle.std.proofs.lemmas.Option.{slice_get-get_or, slice_get_past}
 use Rattle.std.specs.Prelude.{get_or, min}
@@ -9,8 +9,8 @@ use Rattle.cpm_run.specs.declared.arriving.Arrival.{Arrival}
 use Rattle.cpm_run.specs.declared.arriving.PlayEnd.{PlayEnd}
 use Rattle.cpm_run.specs.declared.arriving.PlayEnd.TheVariants as play
 use Rattle.cpm_run.specs.declared.playing.state.Playing.{Playing}
-use Rattle.cpm_run.specs.Play.{FollowsRecord, IsInOrder, PlayState, PlaysOn, arrived}
-use Rattle.cpm_run.specs.Private.Playing.{IsBroken, Repeats, RepeatsTo, Stands, state_of, taken}
+use Rattle.cpm_run.specs.Play.{FollowsRecord, IsInOrder, IsShownAgain, PlayState, arrived}
+use Rattle.cpm_run.specs.Private.Playing.{HasShown, IsUnasked, Repeats, RepeatsTo, taken}
 use Rattle.cpm_run.specs.Seat.{Seat}
 
 -- the default for a place outside of the record
@@ -82,5 +82,11 @@ module _ {S : Type 0} (sectors : S → Image) (faults : S → ℕ) where
   repeats_to A limit last play.Left start before after p ends = absurd ends
   repeats_to A limit last play.NoMemory start before after p ends = absurd ends
 
-  pub short : (start : PlayState S) (before after : Seat) (p q : Playing S) (first : Stands sectors faults start before p after) → PlaysOn sectors faults start (state_of q first.shown) → IsBroken sectors faults start before q after
-  short start before after p q first plays = record { shown = first.shown; plays = plays; left = first.left }
+-- nobody was asked, and all was shown
+pub shown_again : {S : Type 0} (end : PlayEnd) (before mid after : Seat) (new : PlayState S) (bytes : List ℕ) → IsUnasked before mid → IsUnasked mid after → new.run.system.terminal.console.output ≡ Some bytes
+    → HasShown before after new.shown bytes → IsShownAgain end before after new
+shown_again end before mid after new bytes first then put seen = record { coming = then.coming ∙ first.coming; leaves = then.leaves ∙ first.leaves; all = λ _. (bytes, put, seen) }
+
+-- nobody was asked, and the screen failed
+pub failed_again : {S : Type 0} (before mid after : Seat) (new : PlayState S) → IsUnasked before mid → IsUnasked mid after → IsShownAgain play.Failed before after new
+failed_again before mid after new first then = record { coming = then.coming ∙ first.coming; leaves = then.leaves ∙ first.leaves; all = λ other. absurd (other refl) }

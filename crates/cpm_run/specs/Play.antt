@@ -1,13 +1,16 @@
 -- A session at a keyboard: a run to which bytes come between its steps.
-use Rattle.std.specs.Prelude.{◌≡◌, ◌<◌, ◌≤◌, ◌+◌, ◌++◌, ◌⊎◌, ℕ, true, false, List, [], Option, Some, Ok, Err, length, map, slice_get, take}
-use Rattle.std.specs.Io.KnownBytes.{Appends, Consumes}
-use Rattle.z80_cpu.specs.State.{machine}
+use Rattle.std.specs.Prelude.{◌≡◌, ◌≢◌, ◌<◌, ◌≤◌, ◌+◌, ◌++◌, ◌⊎◌, ℕ, true, false, IfSome, List, [], Some, Ok, Err, map, slice_get, take}
+use Rattle.std.specs.Io.{StartsWith}
+use Rattle.std.specs.Io.KnownBytes.{Consumes, IsAtEnd, Keeps}
+use Rattle.z80_cpu.specs.State.{de, machine}
 use Rattle.z80_cpu.specs.declared.registers.Cpu.{Cpu}
 use Rattle.cpm_console.specs.Dialog.{Dialog, output_cleared, dialog_of, put_by, typed_in}
 use Rattle.cpm_console.specs.Line.{typed_line}
 use Rattle.cpm_console.specs.Screen.{screen}
 use Rattle.cpm_disk.specs.Calls.{Mounted}
 use Rattle.cpm_disk.specs.Image.{Image}
+use Rattle.cpm_fcb.specs.Bytes.{memory_byte}
+use Rattle.cpm_fcb.specs.declared.stop.Stop.TheVariants as stop
 use Rattle.cpm_bdos.specs.System.{new_system, with_console}
 use Rattle.cpm_run.specs.declared.ending.Why.{Why}
 use Rattle.cpm_run.specs.declared.ending.Why.TheVariants as why
@@ -71,35 +74,57 @@ PlayEnds sectors faults limit start (play.Run end) new = PlayedRunEnds sectors f
 PlayEnds sectors faults limit start play.Failed new = PlaysOn sectors faults start new ⊎ ((end : Why) × PlayedRunEnds sectors faults limit start end new)
 PlayEnds sectors faults limit start _ new = EndsBetween sectors faults limit start new
 
--- The bytes that arrived are the keys that came, in their order, and the person has not left meanwhile.
-pub record Arrives (before after : Seat) (arrivals : List Arrival) : Type 0 where
-  pub came : Consumes before.coming after.coming (map (λ arrival. arrival.byte) arrivals)
-  pub left : after.left ≡ before.left
+-- the bytes of those that arrived
+abbrev pub arrival_bytes : List Arrival → List ℕ
+arrival_bytes arrivals = map (λ arrival. arrival.byte) arrivals
+
+-- The bytes that arrived are the first keys that came, in their order. A person who was there at the beginning has not left by them.
+pub record Arrives (before : Seat) (arrivals : List Arrival) : Type 0 where
+  pub came : IfSome before.coming (λ keys. StartsWith keys (arrival_bytes arrivals))
+  pub stays : before.leaves [] ≡ false → before.leaves (arrival_bytes arrivals) ≡ false
+
+-- All has been shown that the program put, and then these bytes.
+abbrev pub ShowsAll : {S : Type 0} → Seat → Seat → PlayState S → List ℕ → Type 0
+ShowsAll before after new bytes = (more : List ℕ) → Keeps (before.screen (new.shown ++ bytes ++ more)) (after.screen more)
+
+-- how many bytes the line may have that function 10 takes: the byte at DE
+abbrev pub line_room : {S C : Type 0} → RunState S C → ℕ
+line_room r = memory_byte (de r.machine.cpu.main) r.machine.memory
 
 -- The echo of a line that is being typed, which is shown before function 10 puts it: what the function would put for the bytes that are
 -- there. There is none if no line is being typed.
 abbrev pub IsEcho : {S : Type 0} → RunState S Dialog → List ℕ → Type 0
-IsEcho r echo = (echo ≡ []) ⊎ ((room : ℕ) × (echo ≡ put_by (typed_line room (screen (λ d. d) r.system.terminal)).events))
+IsEcho r echo = (echo ≡ []) ⊎ (echo ≡ put_by (typed_line (line_room r) (screen (λ d. d) r.system.terminal)).events)
 
--- What the keyboard and the screen tell of a session. With the run, all is shown that the program put. If the person left, all is shown, and the
--- echo of the line that was not finished. If memory ran out, some of that echo may be shown. If the keyboard or the screen failed, this does not
--- say what was shown.
+-- What the keyboard and the screen tell of a session besides the bytes that arrived.
+-- With the run: all that came has arrived, and all that the program put is shown. A program was told that no key will ever come only if
+-- none was left.
+-- If the person left: it was by the keys that came, and the last of these did not arrive. All is shown, and the echo of the line that was not
+-- finished.
+-- If memory ran out: all is shown that the program put, and some of that echo may be.
+-- If the keyboard or the screen failed: nothing more.
 abbrev pub Sees : {S : Type 0} → PlayEnd → Seat → Seat → PlayState S → Type 0
-Sees (play.Run end) before after new = (bytes : List ℕ) × (new.run.system.terminal.console.output ≡ Some bytes) × Appends before.shown after.shown (new.shown ++ bytes) × Arrives before after new.arrivals
-Sees play.Failed before after new = after.left ≡ before.left
-Sees play.Left before after new = (new.run.system.terminal.console.output ≡ Some []) × (after.left ≡ true) × ((echo : List ℕ) × IsEcho new.run echo × Appends before.shown after.shown (new.shown ++ echo))
-Sees play.NoMemory before after new = (new.run.system.terminal.console.output ≡ Some []) × (after.left ≡ before.left) × ((echo : List ℕ) × Appends before.shown after.shown (new.shown ++ echo))
+Sees (play.Run end) before after new = Consumes before.coming after.coming (arrival_bytes new.arrivals) × (end ≡ why.Stopped stop.EndOfInput → IsAtEnd after.coming)
+    × ((bytes : List ℕ) × (new.run.system.terminal.console.output ≡ Some bytes) × ShowsAll before after new bytes)
+Sees play.Left before after new = ((last : List ℕ) × Consumes before.coming after.coming (arrival_bytes new.arrivals ++ last) × (before.leaves (arrival_bytes new.arrivals ++ last) ≡ true))
+    × (new.run.system.terminal.console.output ≡ Some []) × ((echo : List ℕ) × IsEcho new.run echo × ShowsAll before after new echo)
+Sees play.NoMemory before after new = (new.run.system.terminal.console.output ≡ Some []) × ((echo : List ℕ) × ShowsAll before after new echo)
+Sees play.Failed before after new = Unit {0}
+
+-- Each of these bytes came before the last of this number of steps.
+abbrev pub CameBefore : ℕ → List Arrival → Type 0
+CameBefore turns arrivals = (k : ℕ) (one : Arrival) → slice_get arrivals k ≡ Some one → one.turn < turns
 
 -- the session at the start of a program
 abbrev pub first_state : {S : Type 0} → Cpu → List ℕ → Mounted S → PlayState S
 first_state cpu memory disk = record { run = record { machine = machine cpu memory; system = new_system disk (dialog_of [] (Some []) 0) }; turns = 0; arrivals = []; shown = [] }
 
 -- A session with a program and its words, on a disk, of at most `limit` steps: how it ended, after how many steps and with which PC, the disk
--- then, and the bytes that came. If the program cannot be started, there is no step.
+-- then, and the bytes that came. None comes after the run has ended. If the program cannot be started, there is no step.
 abbrev pub IsPlayed : {S : Type 0} → (S → Image) → (S → ℕ) → List ℕ → List (List ℕ) → Mounted S → ℕ → Seat → PlayEnd → ℕ → ℕ → Mounted S → List Arrival → Seat → Type 0
 IsPlayed {S} sectors faults file words disk limit before end turns pc left arrivals after =
     ((cpu : Cpu) × (memory : List ℕ) × (new : PlayState S) × IsStart file words (Ok (cpu, memory)) × PlayEnds sectors faults limit (first_state cpu memory disk) end new
-    × (turns ≡ new.turns) × (turns ≤ limit) × (pc ≡ new.run.machine.cpu.pc) × (left ≡ new.run.system.disk) × (arrivals ≡ new.arrivals) × Sees end before after new)
+    × (turns ≡ new.turns) × (turns ≤ limit) × (pc ≡ new.run.machine.cpu.pc) × (left ≡ new.run.system.disk) × (arrivals ≡ new.arrivals) × Arrives before arrivals × Sees end before after new × ((reason : Why) → end ≡ play.Run reason → CameBefore turns arrivals))
     ⊎ ((no : StartFault) × IsStart file words (Err no) × (end ≡ play.Run (unstarted no)) × (turns ≡ 0) × (pc ≡ 0x0100) × (left ≡ disk) × (arrivals ≡ []) × (after ≡ before))
 
 -- ---- the same session again
@@ -120,20 +145,21 @@ pub record FollowsRecord (recorded : List Arrival) (last turns : ℕ) (arrivals 
 -- `Left` says here; or since the screen failed or memory ran out.
 abbrev pub ReplayEnds : {S : Type 0} → (S → Image) → (S → ℕ) → ℕ → ℕ → PlayState S → PlayEnd → PlayState S → Type 0
 ReplayEnds sectors faults limit last start (play.Run end) new = PlayedRunEnds sectors faults limit start end new
-ReplayEnds sectors faults limit last start play.Left new = PlaysOn sectors faults start new × (is_finished new.run.machine.cpu.pc ≡ false) × (last ≤ new.turns)
+ReplayEnds sectors faults limit last start play.Left new = EndsBetween sectors faults limit start new × (last ≤ new.turns)
 ReplayEnds sectors faults limit last start play.Failed new = PlaysOn sectors faults start new ⊎ ((end : Why) × PlayedRunEnds sectors faults limit start end new)
 ReplayEnds sectors faults limit last start play.NoMemory new = PlaysOn sectors faults start new
 
--- All is shown that the program put, if neither the screen failed nor memory ran out.
-abbrev pub IsShownAgain : {S : Type 0} → PlayEnd → Seat → Seat → PlayState S → Type 0
-IsShownAgain play.Failed before after new = after.left ≡ before.left
-IsShownAgain play.NoMemory before after new = after.left ≡ before.left
-IsShownAgain _ before after new = (bytes : List ℕ) × (new.run.system.terminal.console.output ≡ Some bytes) × Appends before.shown after.shown (new.shown ++ bytes) × (after.left ≡ before.left)
+-- No key is taken. All is shown that the program put, unless the screen failed.
+pub record IsShownAgain {S : Type 0} (end : PlayEnd) (before after : Seat) (new : PlayState S) : Type 0 where
+  pub coming : after.coming ≡ before.coming
+  pub leaves : after.leaves ≡ before.leaves
+  pub all : end ≢ play.Failed → (bytes : List ℕ) × (new.run.system.terminal.console.output ≡ Some bytes) × ShowsAll before after new bytes
 
--- A program is played again from a record. If the record is in order, the bytes came as it says.
+-- A program is played again from a record. If the record is in order, the bytes came as it says; and all of them, if the session ended as if the
+-- person left.
 abbrev pub IsReplayed : {S : Type 0} → (S → Image) → (S → ℕ) → List ℕ → List (List ℕ) → Mounted S → ℕ → List Arrival → ℕ → Seat → PlayEnd → ℕ → ℕ → Mounted S → List Arrival → Seat → Type 0
 IsReplayed {S} sectors faults file words disk limit recorded last before end turns pc left arrivals after =
     ((cpu : Cpu) × (memory : List ℕ) × (new : PlayState S) × IsStart file words (Ok (cpu, memory)) × ReplayEnds sectors faults limit last (first_state cpu memory disk) end new
     × (turns ≡ new.turns) × (turns ≤ limit) × (pc ≡ new.run.machine.cpu.pc) × (left ≡ new.run.system.disk) × (arrivals ≡ new.arrivals) × IsShownAgain end before after new
-    × (IsInOrder recorded last → FollowsRecord recorded last turns arrivals))
+    × (IsInOrder recorded last → FollowsRecord recorded last turns arrivals × (end ≡ play.Left → arrivals ≡ recorded)))
     ⊎ ((no : StartFault) × IsStart file words (Err no) × (end ≡ play.Run (unstarted no)) × (turns ≡ 0) × (pc ≡ 0x0100) × (left ≡ disk) × (arrivals ≡ []) × (after ≡ before))

@@ -30,14 +30,13 @@ fn needed_by_call(cpu: &Cpu) -> Need {
     }
 }
 
-/// What the next step needs. A step of the program itself needs nothing, but it comes here only once in many steps, and then the
-/// keyboard is looked at, so that a person can leave a program that makes no calls.
+/// What the next step needs.
 pub(crate) fn needed(cpu: &Cpu) -> Need {
     if cpu.pc == BDOS {
         return needed_by_call(cpu);
     }
     let Some(entry) = bios_entry(cpu.pc) else {
-        return Need::Status;
+        return Need::Nothing;
     };
     match BiosEntry::of(entry) {
         Some(BiosEntry::ConsoleStatus) => Need::Status,

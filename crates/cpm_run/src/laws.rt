@@ -7,12 +7,15 @@ ghost use Rattle.cpm_console.specs.Dialog.{Dialog, dialog_of};
 ghost use Rattle.cpm_disk.specs.Calls.{Mounted};
 ghost use Rattle.cpm_bdos.specs.Alike.{AlikeDialogs, AlikeDisks, seen_nothing};
 ghost use Rattle.cpm_bdos.specs.System.{new_system};
+ghost use Rattle.cpm_run.specs.declared.arriving.Arrival.{Arrival};
+ghost use Rattle.cpm_run.specs.declared.arriving.PlayEnd.{PlayEnd};
 ghost use Rattle.cpm_run.specs.declared.ending.Why.{Why};
 ghost use Rattle.cpm_run.specs.AlikeSessions.{AlikeSessions};
-ghost use Rattle.cpm_run.specs.Play.{EndsBy, PlayState, PlayedRunEnds, PlaysOn, arrived, first_state};
+ghost use Rattle.cpm_run.specs.Play.{EndsBy, IsInOrder, IsPlayed, IsReplayed, PlayState, PlayedRunEnds, PlaysOn, arrived, first_state};
 ghost use Rattle.cpm_run.specs.Run.{IsRun, TurnsEnd};
+ghost use Rattle.cpm_run.specs.Seat.{Seat};
 ghost use Rattle.cpm_run.specs.Turns.{RunState};
-ghost use Rattle.cpm_run.specs.Undisturbed.{IsUndisturbed};
+ghost use Rattle.cpm_run.specs.Undisturbed.{EndsUndisturbed, IsUndisturbed};
 
 use cpm_console::Console;
 use cpm_image::Sectors;
@@ -50,6 +53,26 @@ pub fn one_session<S: Sectors>()
         IsUndisturbed end → IsUndisturbed cause →
         EndsBy S.sectors S.faults (first_state cpu memory disk) end a → EndsBy S.sectors S.faults (first_state cpu memory other) cause b →
         b.arrivals ≡ a.arrivals → b.turns ≡ a.turns → (cause ≡ end) × AlikeSessions S.sectors a b }
+{
+    z80_machine::laws::one_turn();
+}
+
+/// The bytes that come in a session are in order: none came after fewer steps than the one before it, and none after more steps than were
+/// made.
+pub fn bytes_in_order<S: Sectors>()
+    ensures { (file : List ℕ) (words : List (List ℕ)) (disk left : Mounted S) (limit turns pc : ℕ) (before after : Seat) (end : PlayEnd) (arrivals : List Arrival) →
+        IsPlayed S.sectors S.faults file words disk limit before end turns pc left arrivals after → IsInOrder arrivals turns }
+{}
+
+/// A session that is played again from its own record ends as it did: for the same reason, after the same number of steps, with the same PC
+/// and a disk that looks alike, and the same bytes came. This does not hold if memory ran out, or if the disk, the console, the keyboard or
+/// the screen failed, in either of the two.
+pub fn replayed_alike<S: Sectors>()
+    ensures { (file : List ℕ) (words : List (List ℕ)) (disk other left there : Mounted S) (limit turns steps pc address : ℕ) (before after seat screen : Seat) (end cause : PlayEnd) (arrivals came : List Arrival) →
+        AlikeDisks S.sectors disk other → EndsUndisturbed end → EndsUndisturbed cause →
+        IsPlayed S.sectors S.faults file words disk limit before end turns pc left arrivals after →
+        IsReplayed S.sectors S.faults file words other limit arrivals turns seat cause steps address there came screen →
+        (cause ≡ end) × (steps ≡ turns) × (address ≡ pc) × AlikeDisks S.sectors left there × (came ≡ arrivals) }
 {
     z80_machine::laws::one_turn();
 }

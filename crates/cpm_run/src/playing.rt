@@ -1,11 +1,14 @@
 //! Runs a program for somebody at a keyboard.
 
-ghost use Rattle.std.specs.Prelude.{◌≡◌, ◌≤◌, ◌<◌, [], List, OnOk, ℕ, map};
+ghost use Rattle.std.specs.Prelude.{◌≡◌, ◌≤◌, ◌<◌, [], List, OnOk, ℕ, map, true};
+ghost use Rattle.cpm_fcb.specs.declared.stop.Stop.TheVariants as stop;
 ghost use Rattle.cpm_run.specs.declared.arriving.PlayEnd.TheVariants as play;
+ghost use Rattle.cpm_run.specs.declared.ending.Why.{Why};
+ghost use Rattle.cpm_run.specs.declared.ending.Why.TheVariants as why;
 ghost use Rattle.cpm_run.specs.Run.{unstarted};
-ghost use Rattle.cpm_run.specs.Play.{IsPlayed, PlayState, PlayEnds, Sees};
+ghost use Rattle.cpm_run.specs.Play.{Arrives, CameBefore, IsPlayed, PlayState, PlayEnds, Sees};
 ghost use Rattle.cpm_run.specs.Seat.{Seat};
-ghost use Rattle.cpm_run.specs.Private.Playing.{Continues, Ends, OnlyShows, SoFar, state_of};
+ghost use Rattle.cpm_run.specs.Private.Playing.{Begins, Ends, GoesRound, OnlyShows, state_of};
 
 pub(crate) mod state;
 mod waiting;
@@ -16,6 +19,7 @@ use crate::fault::StartFault;
 use crate::places::is_finished;
 use crate::starting::start;
 use crate::station::Station;
+use cpm_bdos::Stop;
 use cpm_disk::Disk;
 use cpm_image::Sectors;
 use state::Playing;
@@ -37,6 +41,13 @@ pub struct Played<S: Sectors> {
     pub arrivals: Vec<Arrival>,
 }
 
+/// Whether a run ended because no input was left.
+fn lacks_input(end: Why) -> bool
+    ensures { end ≡ why.Stopped stop.EndOfInput → result ≡ true }
+{
+    matches!(end, Why::Stopped(Stop::EndOfInput))
+}
+
 impl<S: Sectors> Playing<S> {
     /// Makes steps up to an address of the system, sees that the next step has the input that it needs, and makes it.
     fn go_round<K: Station>(
@@ -48,7 +59,7 @@ impl<S: Sectors> Playing<S> {
         requires bound { self.old.turns ≤ limit }
         ensures bound { self.new.turns ≤ limit }
         ensures further { OnOk result (self.old.turns < self.new.turns) }
-        ensures so_far { (start : PlayState S) (before : Seat) → SoFar S.sectors S.faults start before self.old (K.seat station.old) → Continues S.sectors S.faults limit result start before self.new (K.seat station.new) }
+        ensures so_far { (start : PlayState S) (before : Seat) → Begins S.sectors S.faults start before self.old (K.seat station.old) → GoesRound S.sectors S.faults limit result start before self.new (K.seat station.new) }
     {
         if let Some(why) = self.compute((limit - self.turns).min(SLICE)) {
             return Err(PlayEnd::Run(why));
@@ -75,7 +86,7 @@ impl<S: Sectors> Playing<S> {
     fn play<K: Station>(&mut self, alloc: Global, station: &mut K, limit: u64) -> PlayEnd
         requires bound { self.old.turns ≤ limit }
         ensures bound { self.new.turns ≤ limit }
-        ensures so_far { (start : PlayState S) (before : Seat) → SoFar S.sectors S.faults start before self.old (K.seat station.old) → Ends S.sectors S.faults limit result start before self.new (K.seat station.new) }
+        ensures so_far { (start : PlayState S) (before : Seat) → Begins S.sectors S.faults start before self.old (K.seat station.old) → Ends S.sectors S.faults limit result start before self.new (K.seat station.new) }
     {
         loop {
             if let Err(end) = self.go_round(alloc, station, limit) {
@@ -106,10 +117,13 @@ impl<S: Sectors> Playing<S> {
     fn close<K: Station>(&mut self, station: &mut K, end: PlayEnd) -> PlayEnd
         ensures others { OnlyShows self.old self.new }
         ensures ended { (limit : ℕ) (start : PlayState S) (before : Seat) → Ends S.sectors S.faults limit end start before self.old (K.seat station.old)
-            → (shown : List ℕ) × PlayEnds S.sectors S.faults limit start result (state_of self.old shown) × Sees result before (K.seat station.new) (state_of self.old shown) }
+            → (shown : List ℕ) × PlayEnds S.sectors S.faults limit start result (state_of self.old shown) × Arrives before self.old.arrivals.items × Sees result before (K.seat station.new) (state_of self.old shown)
+            × ((reason : Why) → result ≡ play.Run reason → CameBefore self.old.turns self.old.arrivals.items) }
     {
         match end {
             PlayEnd::Run(why) => match self.show(station) {
+                // A step is made only when it has the input that it takes, or when no key will come (`attend`). So this cannot happen.
+                Ok(()) if lacks_input(why) && !self.ended => PlayEnd::Failed,
                 Ok(()) => PlayEnd::Run(why),
                 Err(_) => PlayEnd::Failed,
             },

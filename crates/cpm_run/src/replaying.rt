@@ -1,9 +1,10 @@
 //! Runs a program again as in an earlier session, with the bytes of its record.
 
-ghost use Rattle.std.specs.Prelude.{◌≡◌, ◌≤◌, ◌<◌, [], ℕ, IfOk, List, OnOk, map, true};
+ghost use Rattle.std.specs.Prelude.{◌≡◌, ◌≢◌, ◌≤◌, ◌<◌, [], ℕ, Err, IfOk, List, OnOk, map, true};
+ghost use Rattle.cpm_run.specs.declared.arriving.PlayEnd.TheVariants as play;
 ghost use Rattle.cpm_run.specs.Play.{FollowsRecord, IsInOrder, IsReplayed, IsShownAgain, PlayState, ReplayEnds};
 ghost use Rattle.cpm_run.specs.Seat.{Seat};
-ghost use Rattle.cpm_run.specs.Private.Playing.{HasReached, OnlyShows, Repeats, RepeatsTo, Stands, state_of};
+ghost use Rattle.cpm_run.specs.Private.Playing.{HasReached, IsUnasked, OnlyShows, Repeats, RepeatsTo, Stands, state_of};
 
 use crate::arriving::{Arrival, PlayEnd};
 use crate::ending::Why;
@@ -30,6 +31,8 @@ impl<S: Sectors> Playing<S> {
         ensures target { self.old.turns ≤ target → self.new.turns ≤ target }
         ensures arrivals { self.new.arrivals.items ≡ self.old.arrivals.items }
         ensures reached { IfOk result (λ done. HasReached target limit done self.old self.new) }
+        ensures ending { result ≢ Err play.Left }
+        ensures keys { IsUnasked (K.seat station.old) (K.seat station.new) }
         ensures stands { (start : PlayState S) (before : Seat) → Stands S.sectors S.faults start before self.old (K.seat station.old) → Repeats S.sectors S.faults limit result start before self.new (K.seat station.new) }
     {
         if let Some(why) = self.compute(target.saturating_sub(self.turns).min(SLICE)) {
@@ -61,6 +64,8 @@ impl<S: Sectors> Playing<S> {
         ensures target { self.old.turns ≤ target → self.new.turns ≤ target }
         ensures arrivals { self.new.arrivals.items ≡ self.old.arrivals.items }
         ensures reached { OnOk result (HasReached target limit true self.old self.new) }
+        ensures ending { result ≢ Err play.Left }
+        ensures keys { IsUnasked (K.seat station.old) (K.seat station.new) }
         ensures stands { (start : PlayState S) (before : Seat) → Stands S.sectors S.faults start before self.old (K.seat station.old) → Repeats S.sectors S.faults limit result start before self.new (K.seat station.new) }
     {
         loop {
@@ -83,7 +88,8 @@ impl<S: Sectors> Playing<S> {
     ) -> PlayEnd
         requires bound { self.old.turns ≤ limit }
         ensures bound { self.new.turns ≤ limit }
-        ensures follows { self.old.arrivals.items ≡ [] → self.old.turns ≡ 0 → IsInOrder recorded.now last → FollowsRecord recorded.now last self.new.turns self.new.arrivals.items }
+        ensures follows { self.old.arrivals.items ≡ [] → self.old.turns ≡ 0 → IsInOrder recorded.now last → FollowsRecord recorded.now last self.new.turns self.new.arrivals.items × (result ≡ play.Left → self.new.arrivals.items ≡ recorded.now) }
+        ensures keys { IsUnasked (K.seat station.old) (K.seat station.new) }
         ensures stands { (start : PlayState S) (before : Seat) → Stands S.sectors S.faults start before self.old (K.seat station.old) → RepeatsTo S.sectors S.faults limit last result start before self.new (K.seat station.new) }
     {
         for arrival in recorded {
@@ -100,15 +106,19 @@ impl<S: Sectors> Playing<S> {
         }
     }
 
-    /// Shows what was put last, if the session did not break off. Answers how it ended.
+    /// Shows what was put last, unless the screen failed. Answers how the session ended.
     fn finish<K: Station>(&mut self, station: &mut K, end: PlayEnd) -> PlayEnd
         ensures others { OnlyShows self.old self.new }
-        ensures ended { (limit last : ℕ) (start : PlayState S) (before : Seat) → RepeatsTo S.sectors S.faults limit last end start before self.old (K.seat station.old)
+        ensures left { result ≡ play.Left → end ≡ play.Left }
+        ensures ended { (limit last : ℕ) (start : PlayState S) (before : Seat) → RepeatsTo S.sectors S.faults limit last end start before self.old (K.seat station.old) → IsUnasked before (K.seat station.old)
             → (shown : List ℕ) × ReplayEnds S.sectors S.faults limit last start result (state_of self.old shown) × IsShownAgain result before (K.seat station.new) (state_of self.old shown) }
     {
         match end {
             PlayEnd::Failed => PlayEnd::Failed,
-            PlayEnd::NoMemory => PlayEnd::NoMemory,
+            PlayEnd::NoMemory => match self.show(station) {
+                Ok(()) => PlayEnd::NoMemory,
+                Err(_) => PlayEnd::Failed,
+            },
             PlayEnd::Left => match self.show(station) {
                 Ok(()) => PlayEnd::Left,
                 Err(_) => PlayEnd::Failed,

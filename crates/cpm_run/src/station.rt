@@ -2,9 +2,11 @@
 
 ghost use Rattle.cpm_run.specs.Seat.{Listens, Seat, TriesToShow};
 
-/// Whether a keyboard is asked for what has come, or for what will come.
+/// Why a keyboard is asked: for what has come, or for what will come.
 #[derive(Clone, Copy, Debug, PartialEq, Eq)]
 pub enum Patience {
+    /// In case the person wants to leave: the program has asked for nothing.
+    Glance,
     /// For the bytes that have come. There may be none.
     Poll,
     /// Until a byte comes. A keyboard may answer no byte all the same, so that it is asked again.
@@ -28,7 +30,7 @@ pub struct StationFault;
 
 /// A keyboard and a screen.
 pub trait Station {
-    /// What was shown and what will come, where that is known, and whether the person has left.
+    /// What the screen has got and which keys will come, where that is known, and by which keys the person leaves.
     ghost seat: { Self → Seat };
 
     /// Reads what comes into a buffer. The program has made `turns` steps.

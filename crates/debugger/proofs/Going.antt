@@ -1,13 +1,14 @@
 -- The walks of a history, one turn after the other.
-use Rattle.std.proofs.Common.{◌≡◌, ℕ, ◌+◌, Bool, true, false, List, [], ◌∷◌, ◌++◌, Option, Some, None, refl, sym, subst, ap, ◌∙◌, arith, inl, inr}
+use Rattle.std.proofs.Common.{◌≡◌, ℕ, ◌+◌, ◌-◌, ◌<◌, ◌^◌, Bool, true, false, List, [], ◌∷◌, ◌++◌, Option, Some, None, refl, sym, subst, ap, ◌∙◌, arith, inl, inr}
 use Rattle.std.specs.Prelude.{All, ◌||◌, if◌then◌else◌, is_some, option_map}
 use Rattle.std.specs.Option.{option_or}
 use Rattle.std.proofs.lemmas.List.Elements.{All-push, All-nil, All-same}
 use Rattle.cpm_run.specs.declared.ending.Why.{Why}
+use Rattle.cpm_run.specs.declared.ending.Why.TheVariants as why
 use Rattle.debugger.specs.Private.Kept.{IsKept}
 use Rattle.debugger.specs.Calls.{IsCallTo, calls, is_at}
 use Rattle.debugger.specs.Stops.{IsLastBefore, hit_at}
-use Rattle.debugger.specs.Walk.{IsAfter, IsNextPoint, IsTrue_of_run, LeadsBy, Point, Shown, MemoryState, first_point}
+use Rattle.debugger.specs.Walk.{IsAfter, IsNextPoint, IsTrue_of_run, LeadsBy, MakesTurn, Point, Shown, MemoryState, end_after, first_point, never}
 use Rattle.debugger.specs.Walk.LeadsBy.{none, more}
 use Rattle.debugger.specs.declared.calls.ReturnPlace.{ReturnPlace}
 use Rattle.debugger.specs.declared.kept.Kept.{Kept}
@@ -72,3 +73,22 @@ pub call_made : (place : ReturnPlace) (start : MemoryState) (n : ℕ) (old new :
 call_made place start n old new call made s same is known all next =
     let e : made ≡ (if calls place old.state then Some n else if is_at place old.state then None else call) = is ∙ ap (λ (t : MemoryState). if calls place t then Some n else if is_at place t then None else call) same in
     subst (λ (r : Option ℕ). IsCallTo place start (n + 1) new r) (sym e) (call_more place start n old new call (calls place old.state) (is_at place old.state) known all next refl refl)
+
+-- ---- the number of turns
+
+-- the turns that were made, in a point from which the run goes on
+pub counted : (test : MemoryState → MemoryState → Bool) {n : ℕ} {a p : Point} → LeadsBy test n a p → p.end ≡ None → p.state.turns ≡ a.state.turns + n
+counted test (none p) going = omega arith
+counted test (more m old last new before next fails) going = by_turn next.turns (counted test before next.goes) where
+  by_turn : MakesTurn last.state next.by new.state → last.state.turns ≡ old.state.turns + m → new.state.turns ≡ old.state.turns + (m + 1)
+  by_turn (inl h) sum = let one = h.turns in omega (arith, one, sum)
+  by_turn (inr h) sum = absurd (let no : ◌≡◌ {A = Option Why} None (Some why.NoMemory) = sym going ∙ next.ends ∙ ap (λ (o : Option Why). end_after o new.state) h.1 in cc)
+
+-- there is a number for one more
+pub room : (start : MemoryState) (n : ℕ) (p : Point) → start.turns ≡ 0 → IsAfter start n p → p.end ≡ None → n < 2 ^ 64 - 1 → p.state.turns < 2 ^ 64 - 1
+room start n p first after going below = let sum = counted never after going in omega (arith, sum, first, below)
+
+-- a point from which the run goes on, as the code finds it
+pub goes_on : (end found : Option Why) (b : Bool) → found ≡ end → b ≡ is_some found → b ≡ false → end ≡ None
+goes_on end None b is some failed = sym is
+goes_on end (Some why) b is some failed = absurd (let clash : true ≡ false = sym some ∙ failed in cc)

@@ -22,7 +22,8 @@ use Rattle.debugger.specs.declared.stops.Goal.{Goal}
 use Rattle.debugger.specs.declared.stops.Goal.TheVariants as goal
 use Rattle.debugger.specs.declared.stops.Hit.{Hit}
 use Rattle.debugger.specs.declared.stops.Stops.{Stops}
-use Rattle.debugger.proofs.OneState.{Goes_well, OneStep, Test, calm_well, first_points, last_of, none_well, on_the_way, one_next, one_number, one_state, same_walk, with_machine}
+use Rattle.cpm_run.proofs.OneRun.{OneStep}
+use Rattle.debugger.proofs.OneState.{Goes_well, Test, calm_well, first_points, last_of, none_well, on_the_way, one_next, one_number, one_state, same_walk, with_machine}
 
 abbrev told_of : Outcome → Option Outcome
 told_of o = Some o

@@ -1,74 +1,47 @@
 -- A run has one state after each number of turns, as far as anybody can see it.
-use Rattle.std.proofs.Common.{◌≡◌, ◌≢◌, ◌+◌, ◌<◌, ◌⊎◌, ℕ, Bool, false, List, [], Option, Some, None, Result, Ok, Err, refl, sym, ap, subst, ◌∙◌, inl, inr, arith}
-use Rattle.std.specs.Prelude.{if◌then◌else◌}
+use Rattle.std.proofs.Common.{◌≡◌, ◌≢◌, ◌+◌, ◌++◌, ◌<◌, ◌⊎◌, ℕ, Bool, false, List, [], Option, Some, None, drop, length, refl, sym, ap, subst, ◌∙◌, inl, inr, arith}
+use Rattle.std.specs.Prelude.{if◌then◌else◌, map}
 use Rattle.std.proofs.lemmas.Bool.{cases_eq, cases_lt}
 use Rattle.z80_cpu.specs.State.{Machine, machine}
-use Rattle.z80_cpu.specs.Stack.{returned}
-use Rattle.z80_cpu.specs.declared.registers.Cpu.{Cpu}
-use Rattle.z80_machine.specs.Turn.{IsStep}
-use Rattle.z80_machine.specs.Types.{Step}
-use Rattle.cpm_bdos.proofs.OneCall.{one_known, one_known_entry}
-use Rattle.cpm_bdos.specs.Alike.{AlikeDisks, AlikeSystems, HasNotFailed}
-use Rattle.cpm_bdos.specs.Functions.{bios_entry_of, function_of}
+use Rattle.cpm_bdos.specs.Alike.{AlikeDisks}
 use Rattle.cpm_bdos.specs.System.{new_system}
-use Rattle.cpm_bdos.specs.declared.outcome.After.{After}
-use Rattle.cpm_bdos.specs.declared.outcome.After.TheVariants as after
 use Rattle.cpm_console.specs.Dialog.{Dialog, dialog_of}
 use Rattle.cpm_disk.specs.Calls.{Mounted}
 use Rattle.cpm_disk.specs.Image.{Image}
-use Rattle.cpm_fcb.specs.declared.stop.Stop.{Stop}
 use Rattle.cpm_fcb.specs.declared.stop.Stop.TheVariants as stop
-use Rattle.cpm_run.specs.Turns.{Call, Comes, Entry, Place, Program, TurnAt, is_finished, place_at_pc, step_end}
+use Rattle.cpm_run.proofs.OneRun.{AlikeRuns, OneStep, one_turn as one_run_turn}
+use Rattle.cpm_run.specs.Turns.{is_finished}
 use Rattle.cpm_run.specs.Undisturbed.{IsUndisturbed}
+use Rattle.cpm_run.specs.declared.arriving.Arrival.{Arrival}
 use Rattle.cpm_run.specs.declared.ending.Why.{Why}
 use Rattle.cpm_run.specs.declared.ending.Why.TheVariants as why
 use Rattle.debugger.specs.Alike.{AlikePoints, AlikeStates, IsCalm, ShowsRun}
+use Rattle.debugger.specs.Coming.{due}
 use Rattle.debugger.specs.Going.{IsFirstShown, ShowsTurn}
-use Rattle.debugger.specs.Walk.{IsAfter, IsNextPoint, IsTrue_of_run, LeadsBy, MakesTurn, MemoryState, Point, Shown, end_after, first_point, limit_end, never}
+use Rattle.debugger.specs.Walk.{IsAfter, IsNextPoint, IsTrue_of_run, LeadsBy, MakesTurn, MemoryState, Point, Shown, due_in, end_after, first_point, limit_end, never, run_of, with_typed}
 use Rattle.debugger.specs.Walk.LeadsBy.{none, more}
-
--- the law that a machine has one step
-abbrev pub OneStep : Type 0
-OneStep = (one two : Step) (old new other : Machine) → IsStep one old new → IsStep two old other → (one ≡ two) × (new ≡ other)
 
 -- ---- one turn
 
--- a turn or a run does not end because the disk or the console failed
+-- a turn or a run does not end because the disk or the console failed, or because memory ran out
 abbrev pub Goes_well : Option Why → Type 0
-Goes_well end = (end ≢ Some (why.Stopped stop.DiskFault)) × (end ≢ Some (why.Stopped stop.ConsoleFault))
+Goes_well end = (end ≢ Some (why.Stopped stop.DiskFault)) × (end ≢ Some (why.Stopped stop.ConsoleFault)) × (end ≢ Some why.NoMemory)
 
 pub calm_well : (end : Option Why) → IsUndisturbed (limit_end end) → Goes_well end
-calm_well end calm = (λ e. calm.disk (ap limit_end e), λ e. calm.console (ap limit_end e))
+calm_well end calm = (λ e. calm.disk (ap limit_end e), λ e. calm.console (ap limit_end e), λ e. calm.memory (ap limit_end e))
+
+none_is_not : (end : Option Why) (why : Why) → end ≡ None → end ≢ Some why
+none_is_not end why e f = absurd (let no_end : ◌≡◌ {A = Option Why} None (Some why) = sym e ∙ f in cc)
 
 pub none_well : (end : Option Why) → end ≡ None → Goes_well end
-none_well end e = (
-  λ f. absurd (let no_end : ◌≡◌ {A = Option Why} None (Some (why.Stopped stop.DiskFault)) = sym e ∙ f in cc),
-  λ f. absurd (let no_end : ◌≡◌ {A = Option Why} None (Some (why.Stopped stop.ConsoleFault)) = sym e ∙ f in cc),
-)
+none_well end e = (none_is_not end (why.Stopped stop.DiskFault) e, none_is_not end (why.Stopped stop.ConsoleFault) e, none_is_not end why.NoMemory e)
 
 turn_well : (by end : Option Why) (s : MemoryState) → end ≡ end_after by s → Goes_well end → Goes_well by
-turn_well by end s is well = (λ e. well.0 (is ∙ ap (λ o. end_after o s) e), λ e. well.1 (is ∙ ap (λ o. end_after o s) e))
-
--- what a call is followed by, as functions of its answer
-comes_end : Result After Stop → Option Why
-comes_end (Ok after.Return) = None
-comes_end (Ok after.WarmBoot) = Some why.Finished
-comes_end (Err stop) = Some (why.Stopped stop)
-
-comes_machine : Cpu → List ℕ → Result After Stop → Machine
-comes_machine cpu memory (Ok after.Return) = machine (returned memory cpu) memory
-comes_machine cpu memory (Ok after.WarmBoot) = machine cpu memory
-comes_machine cpu memory (Err stop) = machine cpu memory
-
-came : (answer : Result After Stop) (cpu : Cpu) (memory : List ℕ) (end : Option Why) (new : Machine) → Comes answer cpu memory end new → (end ≡ comes_end answer) × (new ≡ comes_machine cpu memory answer)
-unfolding comes_end comes_machine
-came (Ok after.Return) cpu memory end new h = h
-came (Ok after.WarmBoot) cpu memory end new h = h
-came (Err stop) cpu memory end new h = h
-
-came_well : (answer : Result After Stop) (end : Option Why) → end ≡ comes_end answer → Goes_well end → HasNotFailed answer
-unfolding comes_end
-came_well answer end is well = (λ e. well.0 (is ∙ ap comes_end e), λ e. well.1 (is ∙ ap comes_end e))
+turn_well by end s is well = (
+  λ e. well.0 (is ∙ ap (λ o. end_after o s) e),
+  λ e. well.1 (is ∙ ap (λ o. end_after o s) e),
+  λ e. well.2 (is ∙ ap (λ o. end_after o s) e),
+)
 
 abbrev image_is : Image → Image
 image_is image = image
@@ -81,46 +54,54 @@ dialog_is dialog = dialog
 
 -- a state with the machine of another
 abbrev pub with_machine : Machine → MemoryState → MemoryState
-with_machine m s = record { machine = m; system = s.system }
+with_machine m s = record s { machine = m }
 
-turn_at : OneStep → (printed : List ℕ) (place : Place) (a b x y : MemoryState) (o p : Option Why) → AlikeSystems image_is dialog_is (Some (printed, printed)) a.system b.system → Goes_well o → Goes_well p
-    → TurnAt image_is no_faults dialog_is place a o x → TurnAt image_is no_faults dialog_is place (with_machine a.machine b) p y → (p ≡ o) × AlikeStates printed x y
-turn_at one_step printed Call a b x y o p alike well fine one two =
-    let s = came one.0 one.1 one.2 o x.machine one.4 in
-    let t = came two.0 two.1 two.2 p y.machine two.4 in
-    let both = one_known image_is no_faults dialog_is (Some (printed, printed)) a.system b.system x.system y.system alike (function_of a.machine.cpu.main.c) a.machine.cpu one.1 two.1 a.machine.memory one.2 two.2 one.0 two.0
-    (came_well one.0 o s.0 well) (came_well two.0 p t.0 fine) one.3 two.3 in (
-      t.0 ∙ ap comes_end both.0 ∙ sym s.0,
-      record {
-        machine = t.1 ∙ ap (comes_machine two.1 two.2) both.0 ∙ ap (λ c. comes_machine c two.2 one.0) both.1 ∙ ap (λ m. comes_machine one.1 m one.0) both.2 ∙ sym s.1;
-        system = both.3;
-      },
-    )
-turn_at one_step printed (Entry n) a b x y o p alike well fine one two =
-    let s = came one.0 one.1 a.machine.memory o x.machine one.3 in
-    let t = came two.0 two.1 a.machine.memory p y.machine two.3 in
-    let both = one_known_entry image_is no_faults dialog_is (Some (printed, printed)) a.system b.system x.system y.system alike (bios_entry_of n) n a.machine.cpu one.1 two.1 one.0 two.0
-    (came_well one.0 o s.0 well) (came_well two.0 p t.0 fine) one.2 two.2 in (
-      t.0 ∙ ap comes_end both.0 ∙ sym s.0,
-      record {
-        machine = t.1 ∙ ap (comes_machine two.1 a.machine.memory) both.0 ∙ ap (λ c. comes_machine c a.machine.memory one.0) both.1 ∙ sym s.1;
-        system = both.2;
-      },
-    )
-turn_at one_step printed Program a b x y o p alike well fine one two =
-    let both = one_step one.0 two.0 a.machine x.machine y.machine one.1 two.1 in (
-      two.3 ∙ ap step_end (sym both.0) ∙ sym one.3,
-      record {
-        machine = sym both.1;
-        system = subst (AlikeSystems image_is dialog_is (Some (printed, printed)) x.system) (sym two.2) (subst (λ s. AlikeSystems image_is dialog_is (Some (printed, printed)) s b.system) (sym one.2) alike);
-      },
-    )
+-- the same bytes are due
+due_alike : (printed : List ℕ) (a b : MemoryState) → AlikeStates printed a b → due_in b ≡ due_in a
+due_alike printed a b alike = ap (λ (n : ℕ). due n b.coming) alike.turns ∙ ap (due a.turns) alike.coming
+
+-- and they are typed
+typed_alike : (one_step : OneStep) (printed : List ℕ) (a b : MemoryState) → AlikeStates printed a b
+    → AlikeRuns image_is no_faults dialog_is (Some (printed, printed)) one_step (with_typed (due_in a) a) (with_typed (due_in b) b)
+typed_alike one_step printed a b alike =
+    let system = alike.system in
+    let dialog = system.screen.dialog in
+    let input = a.system.terminal.console.input in
+    let typed : List ℕ = map (λ arrival. arrival.byte) (due_in b) in
+    record {
+      machine = alike.machine;
+      system = record {
+        disk = system.disk;
+        screen = record {
+          dialog = record {
+            input = ap (λ (l : List ℕ). l ++ typed) dialog.input ∙ ap (λ (l : List Arrival). input ++ map (λ arrival. arrival.byte) l) (due_alike printed a b alike);
+            output = dialog.output;
+            faults = dialog.faults;
+          };
+          column = system.screen.column;
+        };
+        dma = system.dma;
+        user = system.user;
+        search = system.search;
+        within = system.within;
+      };
+    }
 
 -- a turn from states that look alike
 one_turn : OneStep → (printed : List ℕ) (a b x y : MemoryState) (o p : Option Why) → AlikeStates printed a b → Goes_well o → Goes_well p → MakesTurn a o x → MakesTurn b p y → (p ≡ o) × AlikeStates printed x y
-one_turn one_step printed a b x y o p alike well fine one two =
-    turn_at one_step printed (place_at_pc a.machine.cpu.pc) a b x y o p alike.system well fine one
-    (subst (λ (m : Machine). MakesTurn (with_machine m b) p y) alike.machine two)
+one_turn one_step printed a b x y o p alike well fine (inl h) (inl k) =
+    let both = one_run_turn image_is no_faults dialog_is (Some (printed, printed)) one_step (with_typed (due_in a) a) (with_typed (due_in b) b) (run_of x) (run_of y) o p (typed_alike one_step printed a b alike) (well.0, well.1) (fine.0, fine.1) h.step k.step in
+    let dues = due_alike printed a b alike in (
+      both.0,
+      record {
+        machine = both.1.machine;
+        system = both.1.system;
+        turns = k.turns ∙ ap (λ (n : ℕ). n + 1) alike.turns ∙ sym h.turns;
+        coming = k.coming ∙ ap (λ (l : List Arrival). drop (length l) b.coming) dues ∙ ap (λ (l : List Arrival). drop (length (due_in a)) l) alike.coming ∙ sym h.coming;
+      },
+    )
+one_turn one_step printed a b x y o p alike well fine (inl h) (inr k) = absurd (fine.2 k.1)
+one_turn one_step printed a b x y o p alike well fine (inr h) two = absurd (well.2 h.1)
 
 same_end : (by : Option Why) (s t : MemoryState) → t.machine ≡ s.machine → end_after by t ≡ end_after by s
 same_end (Some end) s t e = refl
@@ -209,23 +190,25 @@ one_number one_step printed turn new there alike calm quiet one two (inr h) (inr
 -- ---- a session
 
 -- two runs of one program with the same input begin alike on disks that look alike
-begin_alike : (file : List ℕ) (words : List (List ℕ)) (disk other : Mounted Image) (input : List ℕ) (one two : Shown) → AlikeDisks image_is disk other
-    → IsFirstShown file words disk (dialog_of input (Some []) 0) one → IsFirstShown file words other (dialog_of input (Some []) 0) two → AlikeStates [] one.start two.start
-begin_alike file words disk other input one two disks h k =
+begin_alike : (file : List ℕ) (words : List (List ℕ)) (disk other : Mounted Image) (input : List ℕ) (recorded : List Arrival) (one two : Shown) → AlikeDisks image_is disk other
+    → IsFirstShown file words disk (dialog_of input (Some []) 0) recorded one → IsFirstShown file words other (dialog_of input (Some []) 0) recorded two → AlikeStates [] one.start two.start
+begin_alike file words disk other input recorded one two disks h k =
     let cpus : k.0 ≡ h.0 = k.2.2 ∙ sym h.2.2 in
     let memories : k.1 ≡ h.1 = k.2.3 ∙ sym h.2.3 in
-    let start : MemoryState = record { machine = machine h.0 h.1; system = new_system disk (dialog_of input (Some []) 0) } in
-    let beginning : MemoryState = record { machine = machine k.0 k.1; system = new_system other (dialog_of input (Some []) 0) } in
+    let start : MemoryState = record { machine = machine h.0 h.1; system = new_system disk (dialog_of input (Some []) 0); turns = 0; coming = recorded } in
+    let beginning : MemoryState = record { machine = machine k.0 k.1; system = new_system other (dialog_of input (Some []) 0); turns = 0; coming = recorded } in
     let alike : AlikeStates [] start beginning = record {
       machine = ap (λ c. machine c k.1) cpus ∙ ap (machine h.0) memories;
       system = record { disk = disks; screen = record { dialog = record { input = refl; output = ([], [], refl, refl, refl); faults = refl }; column = refl }; dma = refl; user = refl; search = refl; within = omega arith };
+      turns = refl;
+      coming = refl;
     } in
     subst (λ (s : MemoryState). AlikeStates [] s two.start) (sym h.3) (subst (λ (s : MemoryState). AlikeStates [] start s) (sym k.3) alike)
 
-pub one_session : OneStep → (file : List ℕ) (words : List (List ℕ)) (disk other : Mounted Image) (input : List ℕ) (turn : ℕ) (one two : Shown) → AlikeDisks image_is disk other
-    → ShowsRun file words disk input turn one → ShowsRun file words other input turn two → (two.turn ≡ one.turn) × AlikePoints [] one.point two.point
-one_session one_step file words disk other input turn one two disks h k =
-    let begun = begin_alike file words disk other input h.first k.first disks h.begins k.begins in
+pub one_session : OneStep → (file : List ℕ) (words : List (List ℕ)) (disk other : Mounted Image) (input : List ℕ) (recorded : List Arrival) (turn : ℕ) (one two : Shown) → AlikeDisks image_is disk other
+    → ShowsRun file words disk input recorded turn one → ShowsRun file words other input recorded turn two → (two.turn ≡ one.turn) × AlikePoints [] one.point two.point
+one_session one_step file words disk other input recorded turn one two disks h k =
+    let begun = begin_alike file words disk other input recorded h.first k.first disks h.begins k.begins in
     let starts : AlikeStates [] one.start two.start = subst (λ (s : MemoryState). AlikeStates [] s two.start) (sym h.start) (subst (λ (s : MemoryState). AlikeStates [] h.first.start s) (sym k.start) begun) in
     let number = one_number one_step [] turn one two starts h.calm k.calm h.after k.after h.reached k.reached in
     (number, one_state one_step [] one.start two.start one.turn one.point two.point starts h.calm k.calm h.after (subst (λ (n : ℕ). IsAfter two.start n two.point) number k.after))

@@ -1,11 +1,13 @@
 -- A conversation, and how it ends.
-use Rattle.std.specs.Prelude.{◌≡◌, ◌++◌, ◌⊎◌, ℕ, Bool, false, true, List, [], Result, Ok, Err, Some}
-use Rattle.std.specs.Io.KnownBytes.{Appends}
+use Rattle.std.specs.Prelude.{◌≡◌, ◌≢◌, ◌∷◌, ◌++◌, ◌⊎◌, ℕ, Bool, false, true, All, List, [], Option, Result, Ok, Err, Some}
+use Rattle.std.specs.Io.KnownBytes.{Appends, Consumes, IsAtEnd}
+use Rattle.std.specs.List.{flat_map}
 use Rattle.z80_cpu.specs.declared.registers.Cpu.{Cpu}
 use Rattle.cpm_console.specs.Dialog.{dialog_of}
 use Rattle.cpm_disk.specs.Calls.{Mounted}
 use Rattle.cpm_disk.specs.Image.{Image}
 use Rattle.cpm_run.specs.Start.{IsStart}
+use Rattle.cpm_run.specs.declared.arriving.Arrival.{Arrival}
 use Rattle.streams.specs.Stream.{Stream, counted}
 use Rattle.debugger.specs.declared.conversation.Broken.{Broken}
 use Rattle.debugger.specs.declared.conversation.Broken.TheVariants as broken
@@ -43,22 +45,49 @@ pub record SessionState : Type 0 where
   pub stops : Stops
   pub is_over : Bool
 
--- Lines were obeyed one after the other, none of them after `quit`, and these are their answers.
-pub data Talks (known : Known) (listing : List ℕ) : SessionState → List ℕ → SessionState → Type 0 where
-  none : (t : SessionState) → Talks known listing t [] t
-  more : (old mid new : SessionState) (said text : List ℕ) → Talks known listing old said mid → mid.is_over ≡ false
-      → Obeys known listing mid.shown mid.stops mid.is_over new.shown new.stops new.is_over text → Talks known listing old (said ++ text) new
+-- These lines were obeyed one after the other, none of them after `quit`, and these are their answers.
+pub data Talks (known : Known) (listing : List ℕ) : SessionState → List (List ℕ) → List ℕ → SessionState → Type 0 where
+  none : (t : SessionState) → Talks known listing t [] [] t
+  more : (old mid new : SessionState) (lines : List (List ℕ)) (line said text : List ℕ) → Talks known listing old lines said mid → mid.is_over ≡ false
+      → Obeys known listing line mid.shown mid.stops mid.is_over new.shown new.stops new.is_over text → Talks known listing old (lines ++ line ∷ []) (said ++ text) new
 
 -- the same, and the answers were printed
-abbrev pub TalksOn : Known → List ℕ → SessionState → SessionState → Stream → Stream → Type 0
-TalksOn known listing old new before after = (said : List ℕ) × Talks known listing old said new × Appends before.bytes after.bytes said
+abbrev pub TalksOn : Known → List ℕ → List (List ℕ) → SessionState → SessionState → Stream → Stream → Type 0
+TalksOn known listing lines old new before after = (said : List ℕ) × Talks known listing old lines said new × Appends before.bytes after.bytes said
 
--- A program was debugged with its words, on a disk, with what is typed, from its beginning and without breakpoints; and the answers were
--- printed.
-abbrev pub DebugsTo : List ℕ → List (List ℕ) → Mounted Image → List ℕ → Known → List ℕ → Stream → Stream → Type 0
-DebugsTo file words disk input known listing before after =
-    (first : Shown) × (stops : Stops) × (last : SessionState) × IsFirstShown file words disk (dialog_of input (Some []) 0) first
-    × (stops.breakpoints.items ≡ []) × (stops.watches.items ≡ []) × TalksOn known listing (record { shown = first; stops = stops; is_over = false }) last before after
+-- ---- the lines of what is read
+
+-- the byte that ends a line, LF, is not in it
+abbrev pub HasNoEnd : List ℕ → Type 0
+HasNoEnd line = All (λ byte. byte ≢ 0x0A) line
+
+-- lines, each with its end
+abbrev pub with_ends : List (List ℕ) → List ℕ
+with_ends lines = flat_map (λ line. line ++ 0x0A ∷ []) lines
+
+-- Bytes are these lines, each with its end, and then the rest.
+abbrev pub BeginsLines : List ℕ → List (List ℕ) → List ℕ → Type 0
+BeginsLines bytes lines rest = All HasNoEnd lines × (bytes ≡ with_ends lines ++ rest)
+
+-- The lines that were obeyed are those of the bytes that were read, in their order. If the session was quit, they are the lines up to `quit`. If
+-- the input has ended, they are all its lines, and the bytes after its last line end are the last line, even if there are none. `from` is what
+-- was to be read, and `left` what is left of it.
+abbrev pub ReadsLines : Option (List ℕ) → Option (List ℕ) → List (List ℕ) → Bool → Type 0
+ReadsLines from left lines is_over =
+    (bytes : List ℕ) × Consumes from left bytes
+    × (((rest : List ℕ) × BeginsLines bytes lines rest × (is_over ≡ true))
+    ⊎ ((before : List (List ℕ)) × (last : List ℕ) × BeginsLines bytes before last × HasNoEnd last × (lines ≡ before ++ last ∷ []) × IsAtEnd left))
+
+-- The lines of an input were obeyed, and their answers were printed.
+abbrev pub TalksThrough : Known → List ℕ → Option (List ℕ) → Option (List ℕ) → SessionState → SessionState → Stream → Stream → Type 0
+TalksThrough known listing from left old new before after = (lines : List (List ℕ)) × ReadsLines from left lines new.is_over × TalksOn known listing lines old new before after
+
+-- A program was debugged with its words, on a disk, with what is typed before it starts and with the bytes of a record, from its beginning and
+-- without breakpoints, by the lines of an input; and the answers were printed.
+abbrev pub DebugsTo : List ℕ → List (List ℕ) → Mounted Image → List ℕ → List Arrival → Known → List ℕ → Option (List ℕ) → Option (List ℕ) → Stream → Stream → Type 0
+DebugsTo file words disk input recorded known listing from left before after =
+    (first : Shown) × (stops : Stops) × (last : SessionState) × IsFirstShown file words disk (dialog_of input (Some []) 0) recorded first
+    × (stops.breakpoints.items ≡ []) × (stops.watches.items ≡ []) × TalksThrough known listing from left (record { shown = first; stops = stops; is_over = false }) last before after
 
 -- a program can be started with its words
 abbrev pub Starts : List ℕ → List (List ℕ) → Type 0

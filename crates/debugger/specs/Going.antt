@@ -7,6 +7,7 @@ use Rattle.cpm_console.specs.Dialog.{Dialog}
 use Rattle.cpm_disk.specs.Calls.{Mounted}
 use Rattle.cpm_disk.specs.Image.{Image}
 use Rattle.cpm_run.specs.Start.{IsStart}
+use Rattle.cpm_run.specs.declared.arriving.Arrival.{Arrival}
 use Rattle.debugger.specs.declared.history.Outcome.{Outcome}
 use Rattle.debugger.specs.declared.history.Outcome.TheVariants as outcome
 use Rattle.debugger.specs.declared.stops.Goal.{Goal}
@@ -14,11 +15,11 @@ use Rattle.debugger.specs.declared.stops.Stops.{Stops}
 use Rattle.debugger.specs.Stops.{hit_at, holds}
 use Rattle.debugger.specs.Walk.{IsNextPoint, LeadsBy, Point, Shown, first_point}
 
--- the beginning of a program with its words, on a disk and a console
-abbrev pub IsFirstShown : List ℕ → List (List ℕ) → Mounted Image → Dialog → Shown → Type 0
-IsFirstShown file words disk console shown =
+-- the beginning of a program with its words, on a disk and a console, to which the bytes of a record come
+abbrev pub IsFirstShown : List ℕ → List (List ℕ) → Mounted Image → Dialog → List Arrival → Shown → Type 0
+IsFirstShown file words disk console recorded shown =
     (cpu : Cpu) × (memory : List ℕ) × IsStart file words (Ok (cpu, memory))
-    × (shown.start ≡ record { machine = machine cpu memory; system = new_system disk console }) × (shown.turn ≡ 0) × (shown.point ≡ first_point shown.start)
+    × (shown.start ≡ record { machine = machine cpu memory; system = new_system disk console; turns = 0; coming = recorded }) × (shown.turn ≡ 0) × (shown.point ≡ first_point shown.start)
 
 -- The point after the number of turns that was asked for is shown, or the last point of the run, if it ends before.
 abbrev pub ShowsTurn : ℕ → Shown → Type 0

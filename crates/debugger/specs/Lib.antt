@@ -1,11 +1,13 @@
+pub mod Coming
 pub mod Walk
 pub mod Calls
 pub mod Stops
 pub mod Labelled
 pub mod Going
 pub mod Alike
-pub mod Session
 pub mod Printing
+pub mod Typed
+pub mod Session
 pub mod Text
 pub mod Conversation
 pub mod Private

@@ -1,5 +1,5 @@
 -- What a command does to a session.
-use Rattle.std.specs.Prelude.{◌≡◌, ◌+◌, ◌-◌, ◌^◌, ◌||◌, ◌⊎◌, ℕ, Bool, false, true, List, [], ◌∷◌, ◌++◌, map, min, Option, Some, None, codes, option_map, unwrap_or}
+use Rattle.std.specs.Prelude.{◌≡◌, ◌+◌, ◌-◌, ◌^◌, ◌||◌, ℕ, Bool, false, true, List, [], ◌∷◌, ◌++◌, map, min, Option, Some, None, Ok, Err, option_map, unwrap_or}
 use Rattle.std.specs.List.{range_with_len}
 use Rattle.z80_cpu.specs.State.{up_by}
 use Rattle.debugger.specs.declared.calls.ReturnPlace.{ReturnPlace}
@@ -18,6 +18,7 @@ use Rattle.debugger.specs.Going.{RanUntil, ShowsTurn}
 use Rattle.debugger.specs.Labelled.{Known}
 use Rattle.debugger.specs.Stops.{IsLast}
 use Rattle.debugger.specs.Text.{Says}
+use Rattle.debugger.specs.Typed.{Reading, line_meaning, refusal_line}
 use Rattle.debugger.specs.Walk.{Shown}
 
 -- the number of the last turn that can be counted
@@ -88,12 +89,14 @@ abbrev pub is_quit : Command → Bool
 is_quit command.Quit = true
 is_quit command = false
 
--- the answer to a line that is not a command: nothing to a blank one
-abbrev pub IsRefusedLine : List ℕ → Type 0
-IsRefusedLine text = (text ≡ []) ⊎ (text ≡ codes "not a command; try help\n")
+-- A command is obeyed, and its answer is printed; a blank line changes and prints nothing; a line that is refused changes nothing, and the
+-- answer says why.
+abbrev pub AnswersAs : Reading (Option Command) → Known → List ℕ → Shown → Stops → Bool → Shown → Stops → Bool → List ℕ → Type 0
+AnswersAs (Ok (Some command)) known listing shown stops over new there is_over text =
+    (told : Option Outcome) × Moves command stops shown new told × Sets command stops there × (is_over ≡ (over || is_quit command)) × Says command stops new known listing text
+AnswersAs (Ok None) known listing shown stops over new there is_over text = (new ≡ shown) × (there ≡ stops) × (is_over ≡ over) × (text ≡ [])
+AnswersAs (Err refused) known listing shown stops over new there is_over text = (new ≡ shown) × (there ≡ stops) × (is_over ≡ over) × (text ≡ refusal_line refused)
 
--- A line is a command that is obeyed, and its answer is printed; or it is refused and changes nothing.
-abbrev pub Obeys : Known → List ℕ → Shown → Stops → Bool → Shown → Stops → Bool → List ℕ → Type 0
-Obeys known listing shown stops over new there is_over text =
-    ((command : Command) × (told : Option Outcome) × Moves command stops shown new told × Sets command stops there × (is_over ≡ (over || is_quit command)) × Says command new known listing text)
-    ⊎ ((new ≡ shown) × (there ≡ stops) × (is_over ≡ over) × IsRefusedLine text)
+-- A line is answered by what it means.
+abbrev pub Obeys : Known → List ℕ → List ℕ → Shown → Stops → Bool → Shown → Stops → Bool → List ℕ → Type 0
+Obeys known listing line shown stops over new there is_over text = AnswersAs (line_meaning known line) known listing shown stops over new there is_over text

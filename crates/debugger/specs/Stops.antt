@@ -81,19 +81,19 @@ is_reached (Some (goal.ReturnAbove sp)) returned cpu = has_returned sp returned 
 abbrev pub broken : Cpu → List Breakpoint → Option Hit
 broken cpu breakpoints = option_map (λ breakpoint. hit.Breakpoint breakpoint.address) (find (breaks cpu) breakpoints)
 
--- how a byte has changed, and the address of the instruction that changed it
-abbrev pub change_of : List ℕ → List ℕ → ℕ → ℕ → Change
-change_of old new by address = record { address = address; before = byte_at address old; after = byte_at address new; by = by }
+-- how a byte has changed, and PC and C before the turn that changed it
+abbrev pub change_of : List ℕ → List ℕ → ℕ → ℕ → ℕ → Change
+change_of old new by function address = record { address = address; before = byte_at address old; after = byte_at address new; by = by; function = function }
 
 -- the first of these bytes that a turn has changed
-abbrev pub changed : List ℕ → List ℕ → ℕ → List ℕ → Option Change
-changed old new by watches = option_map (change_of old new by) (find (changes_byte old new) watches)
+abbrev pub changed : List ℕ → List ℕ → ℕ → ℕ → List ℕ → Option Change
+changed old new by function watches = option_map (change_of old new by function) (find (changes_byte old new) watches)
 
 -- What holds at a turn, by the states before and after it: a breakpoint, otherwise a watched byte, otherwise the goal of the command.
 abbrev pub hit_at : Option Goal → Stops → MemoryState → MemoryState → Option Hit
 hit_at goal stops old new =
     option_or (broken new.machine.cpu stops.breakpoints.items)
-    (option_or (option_map hit.Changed (changed old.machine.memory new.machine.memory old.machine.cpu.pc stops.watches.items))
+    (option_or (option_map hit.Changed (changed old.machine.memory new.machine.memory old.machine.cpu.pc old.machine.cpu.main.c stops.watches.items))
     (if is_reached goal (sp_returned old) new.machine.cpu then Some hit.Goal else None))
 
 -- the turns at which something holds

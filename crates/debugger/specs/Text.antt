@@ -1,19 +1,24 @@
 -- What is printed for the commands that show something.
-use Rattle.std.specs.Prelude.{◌≡◌, ℕ, List, [], ◌∷◌, ◌++◌, Option, Some, None, codes, decimal, find, map, nat_eq}
-use Rattle.std.specs.List.{starts_with}
+use Rattle.std.specs.Prelude.{◌≡◌, ◌+◌, ◌==◌, ◌&&◌, ℕ, Bool, List, [], ◌∷◌, ◌++◌, Option, Some, None, codes, decimal, find, if◌then◌else◌, length, map, nat_eq, nat_lt}
+use Rattle.std.specs.List.{flat_map, starts_with}
 use Rattle.bstr.specs.Text.{lines_of, without_terminator}
+use Rattle.cpm_run.specs.Turns.{bdos}
 use Rattle.hex.specs.Hex.{encode_upper}
+use Rattle.z80_cpu.specs.State.{up_by}
 use Rattle.debugger.specs.Printing.Columns.{word_text}
 use Rattle.debugger.specs.Printing.Memory.{memory_text}
 use Rattle.debugger.specs.Printing.Registers.{registers_text}
 use Rattle.debugger.specs.declared.command.Command.{Command}
 use Rattle.debugger.specs.declared.command.Command.TheVariants as command
+use Rattle.debugger.specs.declared.stops.Breakpoint.{Breakpoint}
 use Rattle.debugger.specs.declared.stops.Change.{Change}
+use Rattle.debugger.specs.declared.stops.Condition.{Condition}
 use Rattle.debugger.specs.declared.stops.Hit.{Hit}
 use Rattle.debugger.specs.declared.stops.Hit.TheVariants as hit
 use Rattle.debugger.specs.declared.stops.Stops.{Stops}
 use Rattle.debugger.specs.Labelled.{Known, nearest_label, offset_text}
 use Rattle.debugger.specs.Stops.{IsLast}
+use Rattle.debugger.specs.Typed.{register_name}
 use Rattle.debugger.specs.Walk.{Shown}
 
 -- ---- addresses with their labels
@@ -27,19 +32,74 @@ label_after (Some label) = codes " " ++ label.0 ++ offset_text label.1
 abbrev pub labelled_address : Known → ℕ → List ℕ
 labelled_address known address = word_text address ++ label_after (nearest_label known address)
 
+-- ---- breakpoints and watched bytes
+
+abbrev pub condition_after : Option Condition → List ℕ
+condition_after None = []
+condition_after (Some condition) = codes " if " ++ register_name condition.register ++ codes "=" ++ word_text condition.value
+
+abbrev pub breakpoint_line : Known → Breakpoint → List ℕ
+breakpoint_line known breakpoint = codes "break " ++ labelled_address known breakpoint.address ++ condition_after breakpoint.condition ++ codes "\n"
+
+-- how many bytes, unless it is one
+abbrev pub count_after : ℕ → List ℕ
+count_after count = if count == 1 then [] else codes ", " ++ decimal count ++ codes " bytes"
+
+-- this many bytes from an address on are watched
+abbrev pub watch_line : Known → ℕ → ℕ → List ℕ
+watch_line known from count = codes "watch " ++ labelled_address known from ++ count_after count ++ codes "\n"
+
+-- the same after some text, if there are such bytes
+abbrev pub watched_line : List ℕ → Known → ℕ → ℕ → List ℕ
+watched_line before known from count = if count == 0 then [] else before ++ watch_line known from count
+
+-- whether an address follows this many bytes, so that one line can name all of them
+abbrev pub follows : ℕ → ℕ → ℕ → Bool
+follows from count address = nat_lt 0 count && (nat_lt count 0xFFFF && (address == up_by count from))
+
+-- the lines of `count` watched bytes from an address on, and of more: bytes that follow each other share a line
+abbrev pub watched_lines : List ℕ → Known → ℕ → ℕ → List ℕ → List ℕ
+watched_lines before known from count [] = watched_line before known from count
+watched_lines before known from count (address ∷ more) =
+    if follows from count address then watched_lines before known from (count + 1) more else watched_line before known from count ++ watched_lines before known address 1 more
+
+abbrev pub breakpoint_lines : List ℕ → Known → List Breakpoint → List ℕ
+breakpoint_lines before known breakpoints = flat_map (λ breakpoint. before ++ breakpoint_line known breakpoint) breakpoints
+
+-- the lines of the breakpoints, and then those of the watched bytes, in the order in which they were set, each after some text
+abbrev pub stops_lines : List ℕ → Known → List Breakpoint → List ℕ → List ℕ
+stops_lines before known breakpoints watches = breakpoint_lines before known breakpoints ++ watched_lines before known 0 0 watches
+
+-- the same, or that there are none
+abbrev pub stops_text : List ℕ → Known → Stops → List ℕ
+stops_text before known stops =
+    if (length stops.breakpoints.items == 0) && (length stops.watches.items == 0) then codes "no breakpoints, and no watched bytes\n"
+    else stops_lines before known stops.breakpoints.items stops.watches.items
+
 -- ---- `who`
 
 -- the values of a byte before and after
 abbrev pub values_text : Change → List ℕ
 values_text change = codes ": " ++ encode_upper (change.before ∷ []) ++ codes " -> " ++ encode_upper (change.after ∷ [])
 
-abbrev pub change_line : Known → Change → List ℕ
-change_line known change = labelled_address known change.address ++ values_text change ++ codes " by " ++ labelled_address known change.by ++ codes "\n"
+-- the function of the system call, if one is at this address
+abbrev pub call_text : ℕ → ℕ → List ℕ
+call_text address function = if address == bdos then codes ": BDOS " ++ decimal function else []
 
--- the line of the last turn that changed a byte
-abbrev pub who_text : Known → Option (ℕ × Hit) → List ℕ
-who_text known (Some (turn, hit.Changed change)) = codes "turn " ++ decimal turn ++ codes " changed " ++ change_line known change
-who_text known other = codes "no turn has changed it\n"
+-- the instruction or the system call that changed a byte
+abbrev pub changer_text : Known → Change → List ℕ
+changer_text known change = labelled_address known change.by ++ call_text change.by change.function
+
+abbrev pub change_line : Known → Change → List ℕ
+change_line known change = labelled_address known change.address ++ values_text change ++ codes " by " ++ changer_text known change ++ codes "\n"
+
+abbrev pub unchanged_line : Known → ℕ → List ℕ
+unchanged_line known address = codes "no turn has changed " ++ labelled_address known address ++ codes "\n"
+
+-- the line of the last turn that changed the byte at an address, or that none has
+abbrev pub who_text : Known → ℕ → Option (ℕ × Hit) → List ℕ
+who_text known address (Some (turn, hit.Changed change)) = codes "turn " ++ decimal turn ++ codes " changed " ++ change_line known change
+who_text known address other = unchanged_line known address
 
 -- only this byte is watched
 abbrev pub Watches : ℕ → Stops → Type 0
@@ -59,14 +119,16 @@ listing_text (Some line) = line ++ codes "\n"
 abbrev pub where_text : Known → List ℕ → ℕ → List ℕ
 where_text known listing address = labelled_address known address ++ codes "\n" ++ listing_text (line_with listing (word_text address))
 
--- ---- what a command prints, given what is shown after it; of the other commands this says nothing
-abbrev pub Says : Command → Shown → Known → List ℕ → List ℕ → Type 0
-Says command.Registers shown known listing text = text ≡ registers_text shown.point.state.machine.cpu shown.point.state.system.dma shown.point.state.system.user
-Says (command.Memory from count) shown known listing text = text ≡ memory_text shown.point.state.machine.memory from count
-Says command.Where shown known listing text = text ≡ where_text known listing shown.point.state.machine.cpu.pc
-Says (command.Who address) shown known listing text = (stops : Stops) × (last : Option (ℕ × Hit)) × Watches address stops × IsLast stops shown shown.turn last × (text ≡ who_text known last)
-Says (command.Break breakpoint) shown known listing text = text ≡ []
-Says (command.Watch from count) shown known listing text = text ≡ []
-Says command.Delete shown known listing text = text ≡ []
-Says command.Quit shown known listing text = text ≡ []
-Says other shown known listing text = Unit {0}
+-- ---- what a command prints, given the breakpoints and watched bytes before it and what is shown after it; of the other commands this says nothing
+abbrev pub Says : Command → Stops → Shown → Known → List ℕ → List ℕ → Type 0
+Says command.Registers stops shown known listing text = text ≡ registers_text shown.point.state.machine.cpu shown.point.state.system.dma shown.point.state.system.user
+Says (command.Memory from count) stops shown known listing text = text ≡ memory_text shown.point.state.machine.memory from count
+Says command.Where stops shown known listing text = text ≡ where_text known listing shown.point.state.machine.cpu.pc
+Says (command.Who address) stops shown known listing text =
+    (watching : Stops) × (last : Option (ℕ × Hit)) × Watches address watching × IsLast watching shown shown.turn last × (text ≡ who_text known address last)
+Says (command.Break breakpoint) stops shown known listing text = text ≡ breakpoint_line known breakpoint
+Says (command.Watch from count) stops shown known listing text = text ≡ watch_line known from count
+Says command.Delete stops shown known listing text = text ≡ stops_text (codes "deleted ") known stops
+Says command.Info stops shown known listing text = text ≡ stops_text [] known stops
+Says command.Quit stops shown known listing text = text ≡ []
+Says other stops shown known listing text = Unit {0}

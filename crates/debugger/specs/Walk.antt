@@ -1,18 +1,45 @@
 -- The states of a run by their number: what a debugger shows.
-use Rattle.std.specs.Prelude.{◌≡◌, ◌+◌, ℕ, Bool, false, Option, Some, None, if◌then◌else◌}
-use Rattle.cpm_console.specs.Dialog.{Dialog}
+use Rattle.std.specs.Prelude.{◌≡◌, ◌≢◌, ◌+◌, ◌⊎◌, ℕ, Bool, false, List, [], Option, Some, None, drop, if◌then◌else◌, length, map}
+use Rattle.z80_cpu.specs.State.{Machine}
+use Rattle.cpm_console.specs.Dialog.{Dialog, typed_in}
 use Rattle.cpm_disk.specs.Image.{Image}
+use Rattle.cpm_bdos.specs.System.{System}
+use Rattle.cpm_run.specs.Play.{on_console}
 use Rattle.cpm_run.specs.Turns.{IsTurn, RunState, is_finished}
+use Rattle.cpm_run.specs.declared.arriving.Arrival.{Arrival}
 use Rattle.cpm_run.specs.declared.ending.Why.{Why}
 use Rattle.cpm_run.specs.declared.ending.Why.TheVariants as why
+use Rattle.debugger.specs.Coming.{due}
 
--- the state of a run on a disk and a console in memory
-abbrev pub MemoryState : Type 0
-MemoryState = RunState Image Dialog
+-- The state of a run on a disk and a console in memory: the machine and the system; the number of turns so far; and the bytes that are still to
+-- come from the keyboard, each with the number of turns before it.
+pub record MemoryState : Type 0 where
+  pub machine : Machine
+  pub system : System Image Dialog
+  pub turns : ℕ
+  pub coming : List Arrival
 
--- one turn of such a run, and why it ends the run, if it does
+-- the same state as a run sees it that knows of no bytes to come
+abbrev pub run_of : MemoryState → RunState Image Dialog
+run_of s = record { machine = s.machine; system = s.system }
+
+-- the bytes that are due in a state
+abbrev pub due_in : MemoryState → List Arrival
+due_in s = due s.turns s.coming
+
+-- the run in this state when these bytes have been typed
+abbrev pub with_typed : List Arrival → MemoryState → RunState Image Dialog
+with_typed arrivals s = on_console (typed_in (map (λ arrival. arrival.byte) arrivals) s.system.terminal.console) (run_of s)
+
+-- The bytes that are due are typed, and then the program makes a step.
+pub record TypesAndSteps (old : MemoryState) (end : Option Why) (new : MemoryState) : Type 0 where
+  pub step : IsTurn (λ image. image) (λ image. 0) (λ dialog. dialog) (with_typed (due_in old) old) end (run_of new)
+  pub turns : new.turns ≡ old.turns + 1
+  pub coming : new.coming ≡ drop (length (due_in old)) old.coming
+
+-- One turn, and why it ends the run, if it does. If bytes are due and memory runs out for them, the run ends as it was.
 abbrev pub MakesTurn : MemoryState → Option Why → MemoryState → Type 0
-MakesTurn old end new = IsTurn (λ image. image) (λ image. 0) (λ dialog. dialog) old end new
+MakesTurn old end new = TypesAndSteps old end new ⊎ ((due_in old ≢ []) × (end ≡ Some why.NoMemory) × (new ≡ old))
 
 -- a state, and why the run ends in it, if it does
 pub record Point : Type 0 where

@@ -26,7 +26,7 @@ fn call_size(opcode: u8) -> u16
 }
 
 /// Where the call at PC returns to, if one is there.
-pub(crate) fn call_place(snapshot: &Snapshot) -> Option<ReturnPlace>
+pub(crate) fn call_place(snapshot: &Snapshot<'_>) -> Option<ReturnPlace>
     ensures { result ≡ call_place snapshot.now }
 {
     let cpu = snapshot.cpu();
@@ -42,7 +42,7 @@ pub(crate) fn call_place(snapshot: &Snapshot) -> Option<ReturnPlace>
 }
 
 /// PC and SP in a state.
-pub(crate) fn shown_place(snapshot: &Snapshot) -> ReturnPlace
+pub(crate) fn shown_place(snapshot: &Snapshot<'_>) -> ReturnPlace
     ensures { result ≡ shown_place snapshot.now }
 {
     let cpu = snapshot.cpu();
@@ -59,7 +59,7 @@ fn is_same_place(a: ReturnPlace, b: ReturnPlace) -> bool
 }
 
 /// Whether a call is at PC that returns to this place.
-fn calls(place: ReturnPlace, snapshot: &Snapshot) -> bool
+fn calls(place: ReturnPlace, snapshot: &Snapshot<'_>) -> bool
     ensures { result ≡ calls place snapshot.now }
 {
     match call_place(snapshot) {
@@ -74,7 +74,7 @@ pub(crate) fn open_call(
     call: Option<u64>,
     place: ReturnPlace,
     number: u64,
-    snapshot: &Snapshot,
+    snapshot: &Snapshot<'_>,
 ) -> Option<u64>
     ensures { result ≡ (if calls place snapshot.now then Some number else if is_at place snapshot.now then None else call) }
 {

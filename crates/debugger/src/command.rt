@@ -1,8 +1,16 @@
 //! The commands of a session.
 
+ghost use Rattle.std.specs.Prelude.{◌≡◌, IfOk, Ok, map};
+ghost use Rattle.debugger.specs.Typed.{address, address_and_number, no_arguments, breakpoint, typed_condition, conditional_breakpoint, fitting_value, info, is_listed, line_meaning, typed_number, one_address, read_as, shown_reading, some_address, typed_turns, typed_as, usage};
+ghost use Rattle.debugger.specs.declared.command.Command.TheVariants as command;
+ghost use Rattle.debugger.specs.declared.verb.Verb.TheVariants as verb;
+
 use crate::labels::Labels;
+use crate::refusal::{Refusal, Refused};
+use crate::registers::{is_same_name, register_limit, register_named};
 use crate::stops::{Breakpoint, Condition, RegisterName};
-use asm_scan::{Kind, ScanFault, tokens};
+use crate::verb::{Verb, verb_named};
+use crate::words::{address_of, cut, number_of, turns_of, words_of};
 use std::alloc::{AllocError, Global};
 
 /// A name of the program's labels file, with its address.
@@ -61,293 +69,411 @@ pub enum Command {
     Quit,
 }
 
-/// The first word of a command.
-#[derive(Clone, Copy, PartialEq, Eq)]
-enum Verb {
-    Step,
-    Back,
-    Turn,
-    Run,
-    Next,
-    Finish,
-    BackRun,
-    BackNext,
-    Break,
-    Watch,
-    Delete,
-    Info,
-    Registers,
-    Memory,
-    Disassemble,
-    Stack,
-    Output,
-    Who,
-    Files,
-    Where,
-    Help,
-    Quit,
-}
-
-const VERBS: [(&str, Verb); 22] = [
-    ("step", Verb::Step),
-    ("back", Verb::Back),
-    ("turn", Verb::Turn),
-    ("run", Verb::Run),
-    ("next", Verb::Next),
-    ("finish", Verb::Finish),
-    ("back-run", Verb::BackRun),
-    ("back-next", Verb::BackNext),
-    ("break", Verb::Break),
-    ("watch", Verb::Watch),
-    ("delete", Verb::Delete),
-    ("info", Verb::Info),
-    ("regs", Verb::Registers),
-    ("mem", Verb::Memory),
-    ("dis", Verb::Disassemble),
-    ("stack", Verb::Stack),
-    ("output", Verb::Output),
-    ("who", Verb::Who),
-    ("files", Verb::Files),
-    ("where", Verb::Where),
-    ("help", Verb::Help),
-    ("quit", Verb::Quit),
-];
-
-const REGISTERS: [RegisterName; 14] = [
-    RegisterName::A,
-    RegisterName::B,
-    RegisterName::C,
-    RegisterName::D,
-    RegisterName::E,
-    RegisterName::H,
-    RegisterName::L,
-    RegisterName::Af,
-    RegisterName::Bc,
-    RegisterName::De,
-    RegisterName::Hl,
-    RegisterName::Ix,
-    RegisterName::Iy,
-    RegisterName::Sp,
-];
-
 /// The bytes that `mem` shows without a number.
 const SHOWN_BYTES: u16 = 16;
 
 /// The instructions that `dis` shows without a number.
 const SHOWN_INSTRUCTIONS: u16 = 8;
 
-fn verb_of(word: &str) -> Option<Verb> {
-    for (name, verb) in &VERBS {
-        if *name == word {
-            return Some(*verb);
-        }
-    }
-    None
-}
+/// What the words of a command are read as, or why they are refused.
+pub(crate) type Reading<'a, T> = Result<T, Refused<'a>>;
 
-fn register_of(word: &str) -> Option<RegisterName> {
-    for register in &REGISTERS {
-        if register.name().eq_ignore_ascii_case(word) {
-            return Some(*register);
-        }
-    }
-    None
-}
-
-/// A number of the language, if the word is one.
-fn number_of(alloc: Global, word: &str) -> Result<Option<u16>, AllocError> {
-    let found = match tokens(alloc, word.as_bytes()) {
-        Ok(found) => found,
-        Err(ScanFault::NoMemory) => return Err(AllocError),
-        Err(_) => return Ok(None),
-    };
-    let [token] = found.as_slice() else {
-        return Ok(None);
-    };
-    match token.kind {
-        Kind::Number(n) if token.text == word.as_bytes() => Ok(Some(n)),
-        _ => Ok(None),
-    }
-}
-
-/// The address that the answers print as this word: four hexadecimal digits.
-fn printed(word: &str) -> Option<u16> {
-    if word.len() == 4 && word.bytes().all(|byte| byte.is_ascii_hexdigit()) {
-        u16::from_str_radix(word, 16).ok()
-    } else {
-        None
-    }
-}
-
-/// The address after a label, as in `TEXT+1`.
-fn after_label(alloc: Global, word: &str, labels: &Labels) -> Result<Option<u16>, AllocError> {
-    let Some((name, offset)) = word.split_once('+') else {
-        return Ok(None);
-    };
-    let offset = number_of(alloc, offset)?;
-    Ok(match (labels.address_of(name), offset) {
-        (Some(address), Some(offset)) => Some(address.wrapping_add(offset)),
-        _ => None,
-    })
-}
-
-/// The address that a word is: a label, an address as the answers print it, or a number of the language.
-fn address_of(alloc: Global, word: &str, labels: &Labels) -> Result<Option<u16>, AllocError> {
-    if let Some(address) = labels.address_of(word).or(printed(word)) {
-        return Ok(Some(address));
-    }
-    Ok(after_label(alloc, word, labels)?.or(number_of(alloc, word)?))
-}
-
-/// A number of turns.
-fn count_of(word: &str) -> Option<u64> {
-    word.parse::<u64>().ok()
-}
-
-/// The condition `REG=VALUE`.
-fn condition_of(
-    alloc: Global,
-    word: &str,
-    labels: &Labels,
-) -> Result<Option<Condition>, AllocError> {
-    let Some((name, value)) = word.split_once('=') else {
-        return Ok(None);
-    };
-    let value = address_of(alloc, value, labels)?;
-    Ok(match (register_of(name), value) {
-        (Some(register), Some(value)) => Some(Condition { register, value }),
-        _ => None,
-    })
-}
-
-/// A command of turns, with its number or 1.
-fn counted(verb: Verb, words: &[&str]) -> Option<Command> {
-    let count = match words {
-        [] => 1,
-        [word] => count_of(word)?,
-        _ => return None,
-    };
-    match verb {
-        Verb::Step => Some(Command::Step(count)),
-        Verb::Back => Some(Command::Back(count)),
-        Verb::Turn if !words.is_empty() => Some(Command::Turn(count)),
-        _ => None,
-    }
+/// The refusal of a command that has another form.
+fn usage<'a>(verb: Verb) -> Refused<'a>
+    ensures { (result.0.now, result.1) ≡ usage verb }
+{
+    (verb.name(), Refusal::Usage(verb))
 }
 
 /// A command without further words.
-fn alone(verb: Verb, words: &[&str]) -> Option<Command> {
-    if !words.is_empty() {
-        return None;
-    }
-    match verb {
-        Verb::Run => Some(Command::Run(None)),
-        Verb::Next => Some(Command::Next),
-        Verb::Finish => Some(Command::Finish),
-        Verb::BackRun => Some(Command::BackRun),
-        Verb::BackNext => Some(Command::BackNext),
-        Verb::Delete => Some(Command::Delete),
-        Verb::Registers => Some(Command::Registers),
-        Verb::Stack => Some(Command::Stack),
-        Verb::Output => Some(Command::Output),
-        Verb::Files => Some(Command::Files),
-        Verb::Where => Some(Command::Where),
-        Verb::Help => Some(Command::Help),
-        Verb::Quit => Some(Command::Quit),
-        _ => None,
-    }
-}
-
-/// The command that lists what is set, by itself or with a word of gdb.
-fn info(words: &[&str]) -> Option<Command> {
+fn alone<'a>(verb: Verb, command: Command, words: &[&'a [u8]]) -> Reading<'a, Command>
+    ensures { shown_reading result ≡ no_arguments verb command (map (λ w. w.now) words.now) }
+{
     match words {
-        [] => Some(Command::Info),
-        [word] => match *word {
-            "break" | "breakpoints" | "watch" | "watchpoints" => Some(Command::Info),
-            _ => None,
+        [] => Ok(command),
+        _ => Err(usage(verb)),
+    }
+}
+
+/// `[N]`, a number of turns; `N` without a default.
+fn turns<'a>(verb: Verb, default: Option<u64>, words: &[&'a [u8]]) -> Reading<'a, u64>
+    ensures { shown_reading result ≡ typed_turns verb default (map (λ w. w.now) words.now) }
+{
+    match words {
+        [] => match default {
+            Some(count) => Ok(count),
+            None => Err(usage(verb)),
         },
-        _ => None,
+        [word] => match turns_of(word) {
+            Some(count) => Ok(count),
+            None => Err((*word, Refusal::Turns)),
+        },
+        _ => Err(usage(verb)),
     }
 }
 
-/// A command with an address, and with a number of bytes or a condition.
-fn addressed(
+/// Whether this word may follow `info`.
+fn is_listed(word: &[u8]) -> bool
+    ensures { result ≡ is_listed word.now }
+{
+    is_same_name(word, b"break")
+        || is_same_name(word, b"breakpoints")
+        || is_same_name(word, b"watch")
+        || is_same_name(word, b"watchpoints")
+}
+
+/// `[break|breakpoints|watch|watchpoints]`, which all mean the same.
+fn info<'a>(words: &[&'a [u8]]) -> Reading<'a, Command>
+    ensures { shown_reading result ≡ info (map (λ w. w.now) words.now) }
+{
+    match words {
+        [] => Ok(Command::Info),
+        [word] => if is_listed(word) {
+            Ok(Command::Info)
+        } else {
+            Err(usage(Verb::Info))
+        },
+        _ => Err(usage(Verb::Info)),
+    }
+}
+
+/// `ADDR`
+fn address<'a>(
     alloc: Global,
+    labels: &Labels,
+    word: &'a [u8],
+) -> Result<Reading<'a, u16>, AllocError>
+    ensures { IfOk result (λ read. shown_reading read ≡ address labels.now word.now) }
+{
+    match address_of(alloc, labels, word)? {
+        Some(address) => Ok(Ok(address)),
+        None => Ok(Err((word, Refusal::Address))),
+    }
+}
+
+/// `ADDR` and no more words.
+fn one_address<'a>(
+    alloc: Global,
+    labels: &Labels,
     verb: Verb,
-    words: &[&str],
-    labels: &Labels,
-) -> Result<Option<Command>, AllocError> {
-    let Some((first, more)) = words.split_first() else {
-        return Ok(None);
-    };
-    let Some(address) = address_of(alloc, first, labels)? else {
-        return Ok(None);
-    };
-    match more {
-        [] => Ok(at_address(verb, address)),
-        [word] => Ok(number_of(alloc, word)?.and_then(|n| at_bytes(verb, address, n))),
-        [word, test] if *word == "if" && verb == Verb::Break => {
-            let condition = condition_of(alloc, test, labels)?;
-            Ok(condition.map(|c| {
-                Command::Break(Breakpoint {
-                    address,
-                    condition: Some(c),
-                })
-            }))
-        }
-        _ => Ok(None),
+    words: &[&'a [u8]],
+) -> Result<Reading<'a, u16>, AllocError>
+    ensures { IfOk result (λ read. shown_reading read ≡ one_address labels.now verb (map (λ w. w.now) words.now)) }
+{
+    match words {
+        [word] => address(alloc, labels, word),
+        _ => Ok(Err(usage(verb))),
     }
 }
 
-/// A command with an address.
-fn at_address(verb: Verb, address: u16) -> Option<Command> {
-    match verb {
-        Verb::Run => Some(Command::Run(Some(address))),
-        Verb::Break => Some(Command::Break(Breakpoint {
-            address,
-            condition: None,
-        })),
-        Verb::Watch => Some(Command::Watch(address, 1)),
-        Verb::Memory => Some(Command::Memory(address, SHOWN_BYTES)),
-        Verb::Disassemble => Some(Command::Disassemble(address, SHOWN_INSTRUCTIONS)),
-        Verb::Who => Some(Command::Who(address)),
-        _ => None,
-    }
-}
-
-/// A command with an address and a number of bytes.
-fn at_bytes(verb: Verb, address: u16, count: u16) -> Option<Command> {
-    match verb {
-        Verb::Watch => Some(Command::Watch(address, count)),
-        Verb::Memory => Some(Command::Memory(address, count)),
-        Verb::Disassemble => Some(Command::Disassemble(address, count)),
-        _ => None,
-    }
-}
-
-/// The command that a line is; `None` if it is not one.
-pub(crate) fn command_of(
+/// `[ADDR]`
+fn some_address<'a>(
     alloc: Global,
-    line: &str,
     labels: &Labels,
-) -> Result<Option<Command>, AllocError> {
-    let mut words = Vec::new(alloc);
-    for word in line.split_ascii_whitespace() {
-        words.push(word)?;
+    verb: Verb,
+    words: &[&'a [u8]],
+) -> Result<Reading<'a, Option<u16>>, AllocError>
+    ensures { IfOk result (λ read. shown_reading read ≡ some_address labels.now verb (map (λ w. w.now) words.now)) }
+{
+    if words.is_empty() {
+        return Ok(Ok(None));
     }
-    let Some((first, more)) = words.split_first() else {
-        return Ok(None);
+    match one_address(alloc, labels, verb, words)? {
+        Ok(address) => Ok(Ok(Some(address))),
+        Err(why) => Ok(Err(why)),
+    }
+}
+
+/// A number after an address.
+fn number<'a>(alloc: Global, word: &'a [u8]) -> Result<Reading<'a, u16>, AllocError>
+    ensures { IfOk result (λ read. shown_reading read ≡ typed_number word.now) }
+{
+    match number_of(alloc, word)? {
+        Some(number) => Ok(Ok(number)),
+        None => Ok(Err((word, Refusal::Number))),
+    }
+}
+
+/// `ADDR [N]`
+fn address_and_number<'a>(
+    alloc: Global,
+    labels: &Labels,
+    verb: Verb,
+    default: u16,
+    words: &[&'a [u8]],
+) -> Result<Reading<'a, (u16, u16)>, AllocError>
+    ensures { IfOk result (λ read. shown_reading read ≡ address_and_number labels.now verb default (map (λ w. w.now) words.now)) }
+{
+    let (first, second) = match words {
+        [first] => (first, None),
+        [first, second] => (first, Some(second)),
+        _ => return Ok(Err(usage(verb))),
     };
-    let Some(verb) = verb_of(first) else {
-        return Ok(None);
+    let from = match address(alloc, labels, first)? {
+        Ok(from) => from,
+        Err(why) => return Ok(Err(why)),
     };
-    match verb {
-        Verb::Step | Verb::Back | Verb::Turn => Ok(counted(verb, more)),
-        Verb::Info => Ok(info(more)),
-        Verb::Run if !more.is_empty() => addressed(alloc, verb, more, labels),
-        Verb::Break | Verb::Watch | Verb::Memory | Verb::Disassemble | Verb::Who => {
-            addressed(alloc, verb, more, labels)
+    match second {
+        None => Ok(Ok((from, default))),
+        Some(word) => match number(alloc, word)? {
+            Ok(count) => Ok(Ok((from, count))),
+            Err(why) => Ok(Err(why)),
+        },
+    }
+}
+
+/// The condition of a register and a value that fits into it.
+fn fitting<'a>(word: &'a [u8], register: RegisterName, value: u16) -> Reading<'a, Condition>
+    ensures { shown_reading result ≡ fitting_value word.now (Ok (register, value)) }
+{
+    if value <= register_limit(register) {
+        Ok(Condition { register, value })
+    } else {
+        Err((word, Refusal::OneByte))
+    }
+}
+
+/// `REG=VALUE`
+fn condition<'a>(
+    alloc: Global,
+    labels: &Labels,
+    word: &'a [u8],
+) -> Result<Reading<'a, Condition>, AllocError>
+    ensures { IfOk result (λ read. shown_reading read ≡ typed_condition labels.now word.now) }
+{
+    let Some((name, value)) = cut(word, b'=') else {
+        return Ok(Err(usage(Verb::Break)));
+    };
+    let Some(register) = register_named(name) else {
+        return Ok(Err((word, Refusal::Register)));
+    };
+    match address_of(alloc, labels, value)? {
+        Some(value) => Ok(fitting(word, register, value)),
+        None => Ok(Err((word, Refusal::Value))),
+    }
+}
+
+/// `ADDR if REG=VALUE`
+fn conditional<'a>(
+    alloc: Global,
+    labels: &Labels,
+    word: &'a [u8],
+    test: &'a [u8],
+) -> Result<Reading<'a, Breakpoint>, AllocError>
+    ensures { IfOk result (λ read. shown_reading read ≡ conditional_breakpoint labels.now word.now test.now) }
+{
+    let address = match address(alloc, labels, word)? {
+        Ok(address) => address,
+        Err(why) => return Ok(Err(why)),
+    };
+    match condition(alloc, labels, test)? {
+        Ok(condition) => Ok(Ok(Breakpoint {
+            address,
+            condition: Some(condition),
+        })),
+        Err(why) => Ok(Err(why)),
+    }
+}
+
+/// `ADDR [if REG=VALUE]`
+fn breakpoint<'a>(
+    alloc: Global,
+    labels: &Labels,
+    words: &[&'a [u8]],
+) -> Result<Reading<'a, Breakpoint>, AllocError>
+    ensures { IfOk result (λ read. shown_reading read ≡ breakpoint labels.now (map (λ w. w.now) words.now)) }
+{
+    match words {
+        [] => Ok(Err(usage(Verb::Break))),
+        [word] => match address(alloc, labels, word)? {
+            Ok(address) => Ok(Ok(Breakpoint {
+                address,
+                condition: None,
+            })),
+            Err(why) => Ok(Err(why)),
+        },
+        [_, _] => Ok(Err(usage(Verb::Break))),
+        [word, between, test] => {
+            if is_same_name(between, b"if") {
+                conditional(alloc, labels, word, test)
+            } else {
+                Ok(Err(usage(Verb::Break)))
+            }
         }
-        _ => Ok(alone(verb, more)),
+        _ => Ok(Err(usage(Verb::Break))),
+    }
+}
+
+/// `step [N]`
+fn step<'a>(words: &[&'a [u8]]) -> Reading<'a, Command>
+    ensures { shown_reading result ≡ read_as command.Step (typed_turns verb.Step (Some 1) (map (λ w. w.now) words.now)) }
+{
+    match turns(Verb::Step, Some(1), words) {
+        Ok(count) => Ok(Command::Step(count)),
+        Err(why) => Err(why),
+    }
+}
+
+/// `back [N]`
+fn back<'a>(words: &[&'a [u8]]) -> Reading<'a, Command>
+    ensures { shown_reading result ≡ read_as command.Back (typed_turns verb.Back (Some 1) (map (λ w. w.now) words.now)) }
+{
+    match turns(Verb::Back, Some(1), words) {
+        Ok(count) => Ok(Command::Back(count)),
+        Err(why) => Err(why),
+    }
+}
+
+/// `turn N`
+fn turn<'a>(words: &[&'a [u8]]) -> Reading<'a, Command>
+    ensures { shown_reading result ≡ read_as command.Turn (typed_turns verb.Turn None (map (λ w. w.now) words.now)) }
+{
+    match turns(Verb::Turn, None, words) {
+        Ok(number) => Ok(Command::Turn(number)),
+        Err(why) => Err(why),
+    }
+}
+
+/// `run [ADDR]`
+fn run<'a>(
+    alloc: Global,
+    labels: &Labels,
+    words: &[&'a [u8]],
+) -> Result<Reading<'a, Command>, AllocError>
+    ensures { IfOk result (λ read. shown_reading read ≡ typed_as labels.now verb.Run (map (λ w. w.now) words.now)) }
+{
+    match some_address(alloc, labels, Verb::Run, words)? {
+        Ok(address) => Ok(Ok(Command::Run(address))),
+        Err(why) => Ok(Err(why)),
+    }
+}
+
+/// `break ADDR [if REG=VALUE]`
+fn break_at<'a>(
+    alloc: Global,
+    labels: &Labels,
+    words: &[&'a [u8]],
+) -> Result<Reading<'a, Command>, AllocError>
+    ensures { IfOk result (λ read. shown_reading read ≡ typed_as labels.now verb.Break (map (λ w. w.now) words.now)) }
+{
+    match breakpoint(alloc, labels, words)? {
+        Ok(breakpoint) => Ok(Ok(Command::Break(breakpoint))),
+        Err(why) => Ok(Err(why)),
+    }
+}
+
+/// `watch ADDR [N]`
+fn watch<'a>(
+    alloc: Global,
+    labels: &Labels,
+    words: &[&'a [u8]],
+) -> Result<Reading<'a, Command>, AllocError>
+    ensures { IfOk result (λ read. shown_reading read ≡ typed_as labels.now verb.Watch (map (λ w. w.now) words.now)) }
+{
+    match address_and_number(alloc, labels, Verb::Watch, 1, words)? {
+        Ok((from, count)) => Ok(Ok(Command::Watch(from, count))),
+        Err(why) => Ok(Err(why)),
+    }
+}
+
+/// `mem ADDR [N]`
+fn memory<'a>(
+    alloc: Global,
+    labels: &Labels,
+    words: &[&'a [u8]],
+) -> Result<Reading<'a, Command>, AllocError>
+    ensures { IfOk result (λ read. shown_reading read ≡ typed_as labels.now verb.Memory (map (λ w. w.now) words.now)) }
+{
+    match address_and_number(alloc, labels, Verb::Memory, SHOWN_BYTES, words)? {
+        Ok((from, count)) => Ok(Ok(Command::Memory(from, count))),
+        Err(why) => Ok(Err(why)),
+    }
+}
+
+/// `dis ADDR [N]`
+fn disassemble<'a>(
+    alloc: Global,
+    labels: &Labels,
+    words: &[&'a [u8]],
+) -> Result<Reading<'a, Command>, AllocError>
+    ensures { IfOk result (λ read. shown_reading read ≡ typed_as labels.now verb.Disassemble (map (λ w. w.now) words.now)) }
+{
+    match address_and_number(alloc, labels, Verb::Disassemble, SHOWN_INSTRUCTIONS, words)? {
+        Ok((from, count)) => Ok(Ok(Command::Disassemble(from, count))),
+        Err(why) => Ok(Err(why)),
+    }
+}
+
+/// `who ADDR`
+fn who<'a>(
+    alloc: Global,
+    labels: &Labels,
+    words: &[&'a [u8]],
+) -> Result<Reading<'a, Command>, AllocError>
+    ensures { IfOk result (λ read. shown_reading read ≡ typed_as labels.now verb.Who (map (λ w. w.now) words.now)) }
+{
+    match one_address(alloc, labels, Verb::Who, words)? {
+        Ok(address) => Ok(Ok(Command::Who(address))),
+        Err(why) => Ok(Err(why)),
+    }
+}
+
+/// The command with this name and these words after it.
+fn typed_as<'a>(
+    alloc: Global,
+    labels: &Labels,
+    verb: Verb,
+    words: &[&'a [u8]],
+) -> Result<Reading<'a, Command>, AllocError>
+    ensures { IfOk result (λ read. shown_reading read ≡ typed_as labels.now verb (map (λ w. w.now) words.now)) }
+{
+    match verb {
+        Verb::Step => Ok(step(words)),
+        Verb::Back => Ok(back(words)),
+        Verb::Turn => Ok(turn(words)),
+        Verb::Run => run(alloc, labels, words),
+        Verb::Next => Ok(alone(verb, Command::Next, words)),
+        Verb::Finish => Ok(alone(verb, Command::Finish, words)),
+        Verb::BackRun => Ok(alone(verb, Command::BackRun, words)),
+        Verb::BackNext => Ok(alone(verb, Command::BackNext, words)),
+        Verb::Break => break_at(alloc, labels, words),
+        Verb::Watch => watch(alloc, labels, words),
+        Verb::Delete => Ok(alone(verb, Command::Delete, words)),
+        Verb::Info => Ok(info(words)),
+        Verb::Registers => Ok(alone(verb, Command::Registers, words)),
+        Verb::Memory => memory(alloc, labels, words),
+        Verb::Disassemble => disassemble(alloc, labels, words),
+        Verb::Stack => Ok(alone(verb, Command::Stack, words)),
+        Verb::Output => Ok(alone(verb, Command::Output, words)),
+        Verb::Who => who(alloc, labels, words),
+        Verb::Files => Ok(alone(verb, Command::Files, words)),
+        Verb::Where => Ok(alone(verb, Command::Where, words)),
+        Verb::Help => Ok(alone(verb, Command::Help, words)),
+        Verb::Quit => Ok(alone(verb, Command::Quit, words)),
+    }
+}
+
+/// What a line means: nothing, if it is blank; a command; or why it is refused.
+///
+/// # Errors
+///
+/// [`AllocError`] if memory runs out.
+pub(crate) fn command_of<'a>(
+    alloc: Global,
+    line: &'a [u8],
+    labels: &Labels,
+) -> Result<Reading<'a, Option<Command>>, AllocError>
+    ensures { IfOk result (λ read. shown_reading read ≡ line_meaning labels.now line.now) }
+{
+    let words = words_of(alloc, line)?;
+    let Some((first, more)) = words.split_first() else {
+        return Ok(Ok(None));
+    };
+    let Some(verb) = verb_named(first) else {
+        return Ok(Err((*first, Refusal::Command)));
+    };
+    match typed_as(alloc, labels, verb, more)? {
+        Ok(command) => Ok(Ok(Some(command))),
+        Err(why) => Ok(Err(why)),
     }
 }

@@ -1,8 +1,9 @@
 //! Reads commands and prints their answers.
 
-ghost use Rattle.std.specs.Prelude.{◌≡◌, ◌+◌, ◌<◌, ◌≤◌, IfOk, List, ℕ, false};
+ghost use Rattle.std.specs.Prelude.{◌≡◌, ◌+◌, ◌<◌, ◌≤◌, ◌∷◌, [], IfOk, List, ℕ, false};
 ghost use Rattle.std.specs.Io.KnownBytes.{Appends};
-ghost use Rattle.debugger.specs.Conversation.{Converses, PrintsOrFails, ReadsOn, TalksOn};
+ghost use Rattle.debugger.specs.Conversation.{Converses, HasNoEnd, PrintsOrFails, ReadsOn, TalksThrough};
+ghost use Rattle.debugger.specs.Private.Lines.{GetsLines, TakesAllLines, TakesLines};
 ghost use Rattle.debugger.specs.Session.{Obeys};
 ghost use Rattle.debugger.specs.Walk.{IsTrue_of_run};
 
@@ -60,7 +61,7 @@ fn answer_line<O: Sink>(
     ensures prints { PrintsOrFails (O.stream output.old) (O.stream output.new) result }
     ensures labels { session.new.labels ≡ session.old.labels }
     ensures listing { session.new.listing ≡ session.old.listing }
-    ensures obeys { IfOk result (λ _. (text : List ℕ) × Obeys session.old.labels session.old.listing.now session.old.history session.old.stops session.old.is_over session.new.history session.new.stops session.new.is_over text
+    ensures obeys { IfOk result (λ _. (text : List ℕ) × Obeys session.old.labels session.old.listing.now line.now session.old.history session.old.stops session.old.is_over session.new.history session.new.stops session.new.is_over text
         × Appends (O.stream output.old).bytes (O.stream output.new).bytes text) }
 {
     let answer = session.answer(line)?;
@@ -79,12 +80,13 @@ fn take_byte<O: Sink>(
 ) -> Result<(), Broken>
     requires after { IsTrue_of_run session.old.history }
     requires going { session.old.is_over ≡ false }
+    requires line { HasNoEnd line.old.items }
     ensures start { session.new.history.start ≡ session.old.history.start }
     ensures after { IsTrue_of_run session.new.history }
     ensures prints { PrintsOrFails (O.stream output.old) (O.stream output.new) result }
     ensures labels { session.new.labels ≡ session.old.labels }
     ensures listing { session.new.listing ≡ session.old.listing }
-    ensures talks { IfOk result (λ _. TalksOn session.old.labels session.old.listing.now (record { shown = session.old.history; stops = session.old.stops; is_over = session.old.is_over }) (record { shown = session.new.history; stops = session.new.stops; is_over = session.new.is_over }) (O.stream output.old) (O.stream output.new)) }
+    ensures talks { IfOk result (λ _. TakesAllLines session.old.labels session.old.listing.now line.old.items (byte ∷ []) line.new.items (record { shown = session.old.history; stops = session.old.stops; is_over = session.old.is_over }) (record { shown = session.new.history; stops = session.new.stops; is_over = session.new.is_over }) (O.stream output.old) (O.stream output.new)) }
 {
     if byte != b'\n' {
         line.push(byte)?;
@@ -103,13 +105,14 @@ fn take_bytes<O: Sink>(
     line: &mut Vec<u8>,
     output: &mut O,
 ) -> Result<(), Broken>
-    requires { IsTrue_of_run session.old.history }
+    requires after { IsTrue_of_run session.old.history }
+    requires line { HasNoEnd line.old.items }
     ensures start { session.new.history.start ≡ session.old.history.start }
     ensures after { IsTrue_of_run session.new.history }
     ensures prints { PrintsOrFails (O.stream output.old) (O.stream output.new) result }
     ensures labels { session.new.labels ≡ session.old.labels }
     ensures listing { session.new.listing ≡ session.old.listing }
-    ensures talks { IfOk result (λ _. TalksOn session.old.labels session.old.listing.now (record { shown = session.old.history; stops = session.old.stops; is_over = session.old.is_over }) (record { shown = session.new.history; stops = session.new.stops; is_over = session.new.is_over }) (O.stream output.old) (O.stream output.new)) }
+    ensures talks { IfOk result (λ _. TakesLines session.old.labels session.old.listing.now line.old.items bytes.now line.new.items (record { shown = session.old.history; stops = session.old.stops; is_over = session.old.is_over }) (record { shown = session.new.history; stops = session.new.stops; is_over = session.new.is_over }) (O.stream output.old) (O.stream output.new)) }
 {
     for byte in bytes {
         if session.is_over() {
@@ -132,13 +135,14 @@ fn read_some<I: Input, O: Sink>(
     requires room { I.reads input.old < MOST_READS }
     requires after { IsTrue_of_run session.old.history }
     requires going { session.old.is_over ≡ false }
+    requires line { HasNoEnd line.old.items }
     ensures start { session.new.history.start ≡ session.old.history.start }
     ensures after { IsTrue_of_run session.new.history }
     ensures labels { session.new.labels ≡ session.old.labels }
     ensures listing { session.new.listing ≡ session.old.listing }
     ensures reads { I.reads input.new ≡ I.reads input.old + 1 }
     ensures ends { ReadsOn (O.stream output.old) (O.stream output.new) (I.failed input.new) result }
-    ensures talks { IfOk result (λ _. TalksOn session.old.labels session.old.listing.now (record { shown = session.old.history; stops = session.old.stops; is_over = session.old.is_over }) (record { shown = session.new.history; stops = session.new.stops; is_over = session.new.is_over }) (O.stream output.old) (O.stream output.new)) }
+    ensures talks { IfOk result (λ ended. GetsLines session.old.labels session.old.listing.now (I.remaining input.old) (I.remaining input.new) line.old.items line.new.items (record { shown = session.old.history; stops = session.old.stops; is_over = session.old.is_over }) (record { shown = session.new.history; stops = session.new.stops; is_over = session.new.is_over }) (O.stream output.old) (O.stream output.new) ended) }
 {
     let mut chunk = [0; CHUNK];
     match input.read(&mut chunk) {
@@ -173,7 +177,7 @@ pub fn converse<I: Input, O: Sink>(
     ensures after { IsTrue_of_run session.new.history }
     ensures converses { Converses (O.stream output.old) (O.stream output.new) (I.failed input.new) (I.reads input.new) result }
     ensures reads { I.reads input.new ≤ MOST_READS }
-    ensures talks { IfOk result (λ _. TalksOn session.old.labels session.old.listing.now (record { shown = session.old.history; stops = session.old.stops; is_over = session.old.is_over }) (record { shown = session.new.history; stops = session.new.stops; is_over = session.new.is_over }) (O.stream output.old) (O.stream output.new)) }
+    ensures talks { IfOk result (λ _. TalksThrough session.old.labels session.old.listing.now (I.remaining input.old) (I.remaining input.new) (record { shown = session.old.history; stops = session.old.stops; is_over = session.old.is_over }) (record { shown = session.new.history; stops = session.new.stops; is_over = session.new.is_over }) (O.stream output.old) (O.stream output.new)) }
 {
     let mut line = Vec::new(alloc);
     session.knows();

@@ -12,17 +12,19 @@ use crate::session::Session;
 use cpm_console::MemoryConsole;
 use cpm_disk::Disk;
 use cpm_image::MemoryImage;
-use cpm_run::StartFault;
+use cpm_run::{Arrival, StartFault};
 use std::alloc::Global;
 use streams::{Input, Sink};
 
-/// A program with its words, its disk, what is typed, and its listing, empty if there is none.
+/// A program with its words, its disk, what is typed before it starts, the bytes of a record, each of which comes after its number of turns, and
+/// its listing, empty if there is none.
 #[derive(Drop)]
 pub struct Program<'a> {
     pub file: &'a [u8],
     pub words: &'a [&'a [u8]],
     pub disk: Disk<MemoryImage>,
     pub typed: Vec<u8>,
+    pub recorded: &'a [Arrival],
     pub listing: &'a [u8],
 }
 
@@ -52,17 +54,18 @@ pub fn debug<I: Input, O: Sink>(
     requires unread { I.reads commands.old ≡ 0 }
     ensures debugs { Debugs program.entry.file.now (map (λ w. w.now) program.entry.words.now) (O.stream output.old) (O.stream output.new) (I.failed commands.new) (I.reads commands.new) result }
     ensures reads { I.reads commands.new ≤ MOST_READS }
-    ensures debugged { IfOk result (λ _. DebugsTo program.entry.file.now (map (λ w. w.now) program.entry.words.now) program.entry.disk program.entry.typed.items (record { labels = map symbol_parts symbols.now; size = length program.entry.file.now }) program.entry.listing.now (O.stream output.old) (O.stream output.new)) }
+    ensures debugged { IfOk result (λ _. DebugsTo program.entry.file.now (map (λ w. w.now) program.entry.words.now) program.entry.disk program.entry.typed.items program.entry.recorded.now (record { labels = map symbol_parts symbols.now; size = length program.entry.file.now }) program.entry.listing.now (I.remaining commands.old) (I.remaining commands.new) (O.stream output.old) (O.stream output.new)) }
 {
     let Program {
         file,
         words,
         disk,
         typed,
+        recorded,
         listing,
     } = program;
     let console = MemoryConsole::new(alloc, typed);
-    let history = match History::new(alloc, file, words, disk, console) {
+    let history = match History::new(alloc, file, words, disk, console, recorded) {
         Ok(history) => history,
         Err(fault) => return Err(DebugFault::Start(fault)),
     };

@@ -11,7 +11,7 @@ use crate::stops::{Goal, Hit, Stops};
 use cpm_console::MemoryConsole;
 use cpm_disk::Disk;
 use cpm_image::MemoryImage;
-use cpm_run::{StartFault, Why, start};
+use cpm_run::{Arrival, StartFault, Why, start};
 use std::alloc::{AllocError, Global};
 use std::marker::Model;
 
@@ -29,14 +29,14 @@ pub enum Outcome {
 /// A run that can show its state after any number of turns. States are kept at distances that double, so that going back takes
 /// no more turns than there are between two of them.
 #[derive(Drop)]
-pub struct History {
-    start: Snapshot,
-    kept: Keeper,
+pub struct History<'a> {
+    start: Snapshot<'a>,
+    kept: Keeper<'a>,
     turn: u64,
-    point: Point,
+    point: Point<'a>,
 }
 
-impl Model for History {
+impl<'a> Model for History<'a> {
     ghost use Rattle.debugger.specs.Walk.{Shown};
 
     ghost Value = { Shown };
@@ -66,7 +66,7 @@ fn is_same_end(one: Option<Why>, other: Option<Why>) -> bool
     one == other
 }
 
-impl History {
+impl<'a> History<'a> {
     ghost use Rattle.std.specs.Prelude.{◌≡◌, ◌+◌, ◌-◌, ◌<◌, ◌≤◌, ◌^◌, Err, IfErr, IfOk, None, OnErr, false, map, true};
     ghost use Rattle.cpm_run.specs.Start.{IsStart};
     ghost use Rattle.debugger.specs.Calls.{IsCallBefore, shown_place};
@@ -74,7 +74,8 @@ impl History {
     ghost use Rattle.debugger.specs.Walk.{IsAfter, IsNextPoint, IsTrue_of_run};
     ghost use Rattle.debugger.specs.Going.{IsFirstShown, RanUntil, ShowsTurn};
 
-    /// Shows the state in which a program begins with its words on a disk and a console.
+    /// Shows the state in which a program begins with its words on a disk and a console. The bytes of the record come later, each after its
+    /// number of turns.
     ///
     /// # Errors
     ///
@@ -85,12 +86,13 @@ impl History {
         words: &[&[u8]],
         disk: Disk<MemoryImage>,
         console: MemoryConsole,
-    ) -> Result<History, StartFault>
-        ensures begins { IfOk result (IsFirstShown «com».now (map (λ w. w.now) words.now) disk console) }
+        recorded: &'a [Arrival],
+    ) -> Result<History<'a>, StartFault>
+        ensures begins { IfOk result (IsFirstShown «com».now (map (λ w. w.now) words.now) disk console recorded.now) }
         ensures refused { IfErr result (λ fault. IsStart «com».now (map (λ w. w.now) words.now) (Err fault)) }
     {
         let (cpu, memory) = start(alloc, com, words)?;
-        let start = Snapshot::new(cpu, memory, disk, console);
+        let start = Snapshot::new(cpu, memory, disk, console, recorded);
         let point = Point::first(start.copied(alloc)?);
         Ok(History {
             start,
@@ -109,7 +111,7 @@ impl History {
     }
 
     /// The state that is shown, and why the run ends in it, if it does.
-    pub fn point(&self) -> &Point
+    pub fn point(&self) -> &Point<'a>
         ensures point { result.now ≡ self.now.point }
         ensures after { IsTrue_of_run self.now }
     {
@@ -123,7 +125,7 @@ impl History {
         ensures start { self.new.start ≡ self.old.start }
         ensures turn { self.new.turn ≡ self.old.turn + 1 }
     {
-        self.point.advance();
+        self.point.advance(alloc);
         self.turn += 1;
         self.kept.keep(alloc, self.turn, &self.point);
     }
@@ -150,7 +152,7 @@ impl History {
     }
 
     /// The latest point that is kept up to a number of turns, and its number; or the first one.
-    fn kept_point(&self, alloc: Global, turn: u64) -> Result<(u64, Point), AllocError>
+    fn kept_point(&self, alloc: Global, turn: u64) -> Result<(u64, Point<'a>), AllocError>
         ensures within { IfOk result (λ found. found.0 ≤ turn) }
         ensures after { IfOk result (λ found. IsAfter self.now.start found.0 found.1) }
     {
@@ -213,7 +215,7 @@ impl History {
     }
 
     /// Whether the run that is shown ends after this number of turns as it does in a point, or goes on as there.
-    fn ends_so(&self, turn: u64, point: &Point) -> bool
+    fn ends_so(&self, turn: u64, point: &Point<'_>) -> bool
         ensures { result ≡ true → point.now.end ≡ end_at turn self.now }
     {
         if turn == self.turn {
@@ -273,7 +275,7 @@ impl History {
                 return Err(AllocError);
             }
             call = open_call(call, place, number, point.snapshot());
-            point.advance();
+            point.advance(alloc);
         }
         Ok(call)
     }

@@ -14,13 +14,13 @@ const FIRST_DISTANCE: u64 = 1_024;
 
 /// A state in which a run has not ended, with its number.
 #[derive(Drop)]
-pub(crate) struct Kept {
+pub(crate) struct Kept<'a> {
     pub turn: u64,
-    pub snapshot: Snapshot,
+    pub snapshot: Snapshot<'a>,
 }
 
 /// A copy of the state of a point in which the run has not ended, if there is memory for it.
-fn going_copy(alloc: Global, point: &Point) -> Option<Snapshot>
+fn going_copy<'a>(alloc: Global, point: &Point<'a>) -> Option<Snapshot<'a>>
     ensures { IfSome result (λ snapshot. (snapshot ≡ point.now.state) × (point.now.end ≡ None)) }
 {
     match point.end() {
@@ -37,20 +37,20 @@ fn next_multiple(turn: u64, distance: u64) -> u64 {
 
 /// States of one run, in their order. Their numbers are multiples of the distance, or were when they were kept.
 #[derive(Drop)]
-pub(crate) struct Keeper {
-    pub states: Vec<Kept>,
+pub(crate) struct Keeper<'a> {
+    pub states: Vec<Kept<'a>>,
     distance: u64,
     /// The number of the next state to keep. It is stored, since a division at each turn would slow a run down.
     next: u64,
 }
 
-impl Keeper {
+impl<'a> Keeper<'a> {
     ghost use Rattle.std.specs.Prelude.{◌≡◌, ◌≤◌, [], All, IfSome};
     ghost use Rattle.debugger.specs.Private.Kept.{IsKept};
     ghost use Rattle.debugger.specs.Walk.{IsAfter, MemoryState};
 
     /// A keeper of no states.
-    pub(crate) fn new(alloc: Global) -> Keeper
+    pub(crate) fn new(alloc: Global) -> Keeper<'a>
         ensures { result.states.items ≡ [] }
     {
         Keeper {
@@ -80,7 +80,7 @@ impl Keeper {
     }
 
     /// Keeps a copy of a state, if one is to be kept and there is memory for it. Without it, going back takes longer.
-    pub(crate) fn keep(&mut self, alloc: Global, turn: u64, point: &Point)
+    pub(crate) fn keep(&mut self, alloc: Global, turn: u64, point: &Point<'a>)
         ensures { (start : MemoryState) → All (IsKept start) self.old.states.items → IsAfter start turn point.now → All (IsKept start) self.new.states.items }
     {
         if turn < self.next {
@@ -95,7 +95,7 @@ impl Keeper {
     }
 
     /// The latest state that is kept up to this number.
-    pub(crate) fn latest(&self, turn: u64) -> Option<&Kept>
+    pub(crate) fn latest(&self, turn: u64) -> Option<&Kept<'a>>
         ensures within { IfSome result (λ kept. kept.now.turn ≤ turn) }
         ensures known { (start : MemoryState) → All (IsKept start) self.now.states.items → IfSome result (λ kept. IsKept start kept.now) }
     {

@@ -2,9 +2,11 @@
 
 ghost use Rattle.std.specs.Prelude.{◌≡◌, ◌<◌, ◌++◌, ℕ, suc, IfOk, OnOk, length, map, slice_index};
 ghost use Rattle.std.specs.Option.{option_map};
+ghost use Rattle.debugger.specs.Typed.{first_named, address_of_label};
 ghost use Rattle.debugger.specs.Labelled.{AreNumbersIfAny, is_in_program, nearest_label, last_at, last_below, offset_text, parts_of, symbol_parts};
 
 use crate::command::Symbol;
+use crate::registers::is_same_name;
 use std::alloc::{AllocError, Global};
 use std::marker::Model;
 
@@ -96,6 +98,18 @@ fn all_numbers(alloc: Global, labels: &[Named]) -> Result<Vec<usize>, AllocError
     Ok(numbers)
 }
 
+/// The address of the first of these labels with this name, in upper or lower case.
+fn first_named(labels: &[Named], name: &[u8]) -> Option<u16>
+    ensures { result ≡ first_named (map parts_of labels.now) name.now }
+{
+    for label in labels {
+        if is_same_name(&label.name, name) {
+            return Some(label.address);
+        }
+    }
+    None
+}
+
 impl Labels {
     /// The labels of a program of `size` bytes, in any order.
     ///
@@ -138,13 +152,10 @@ impl Labels {
     }
 
     /// The address of the first label with this name, in upper or lower case.
-    pub(crate) fn address_of(&self, name: &str) -> Option<u16> {
-        for label in &self.labels {
-            if label.name.eq_ignore_ascii_case(name.as_bytes()) {
-                return Some(label.address);
-            }
-        }
-        None
+    pub(crate) fn address_of(&self, name: &[u8]) -> Option<u16>
+        ensures { result ≡ address_of_label self.now name.now }
+    {
+        first_named(&self.labels, name)
     }
 }
 

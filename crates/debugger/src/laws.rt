@@ -1,12 +1,18 @@
 //! Laws of a debugged run, as functions that do nothing.
 
-ghost use Rattle.std.specs.Prelude.{◌≡◌, ℕ, [], List, Option};
+ghost use Rattle.std.specs.Prelude.{◌≡◌, ℕ, [], List, Ok, Option, Some};
 ghost use Rattle.cpm_bdos.specs.Alike.{AlikeDisks};
 ghost use Rattle.cpm_disk.specs.Calls.{Mounted};
 ghost use Rattle.cpm_disk.specs.Image.{Image};
+ghost use Rattle.cpm_console.specs.Dialog.{dialog_of};
+ghost use Rattle.cpm_run.specs.Play.{IsInOrder, PlayedRunEnds, first_state};
 ghost use Rattle.cpm_run.specs.Run.{TurnsEnd};
+ghost use Rattle.cpm_run.specs.Start.{IsStart};
+ghost use Rattle.cpm_run.specs.declared.arriving.Arrival.{Arrival};
+ghost use Rattle.z80_cpu.specs.declared.registers.Cpu.{Cpu};
 ghost use Rattle.debugger.specs.Alike.{AlikeHistories, AlikePoints, AlikeStates, IsCalm, ShowsRun};
-ghost use Rattle.debugger.specs.Going.{RanUntil};
+ghost use Rattle.debugger.specs.Coming.{came_before};
+ghost use Rattle.debugger.specs.Going.{IsFirstShown, RanUntil};
 ghost use Rattle.debugger.specs.Session.{Moves};
 ghost use Rattle.debugger.specs.Stops.{IsLast};
 ghost use Rattle.debugger.specs.declared.command.Command.{Command};
@@ -14,17 +20,29 @@ ghost use Rattle.debugger.specs.declared.history.Outcome.{Outcome};
 ghost use Rattle.debugger.specs.declared.stops.Goal.{Goal};
 ghost use Rattle.debugger.specs.declared.stops.Hit.{Hit};
 ghost use Rattle.debugger.specs.declared.stops.Stops.{Stops};
-ghost use Rattle.debugger.specs.Walk.{IsAfter, IsTrue_of_run, Point, MemoryState, Shown, limit_end};
+ghost use Rattle.debugger.specs.Walk.{IsAfter, IsTrue_of_run, Point, MemoryState, Shown, limit_end, run_of};
 
-/// What is shown after n turns is what a run leaves that may make n turns: it ends with this state after n turns, because the run ends
-/// there or because of its limit.
+/// If no bytes of a record come, what is shown after n turns is what a run leaves that may make n turns: it ends with this state after n turns,
+/// because the run ends there or because of its limit.
 pub fn as_run()
-    ensures { (start : MemoryState) (n : ℕ) (p : Point) → IsAfter start n p → TurnsEnd (λ image. image) (λ image. 0) (λ dialog. dialog) n start (limit_end p.end) n p.state }
+    ensures { (start : MemoryState) (n : ℕ) (p : Point) → start.coming ≡ [] → IsAfter start n p →
+        TurnsEnd (λ image. image) (λ image. 0) (λ dialog. dialog) n (run_of start) (limit_end p.end) n (run_of p.state) }
+{}
+
+/// If the bytes of a record come, what is shown after n turns is what a session leaves that may make n turns, with the same program, words and
+/// disk, to which the bytes of the record came that were to come before. So by [`cpm_run::laws::one_session`] a debugger shows what the
+/// program does when it is played again.
+pub fn is_session()
+    ensures { (file : List ℕ) (words : List (List ℕ)) (disk : Mounted Image) (recorded : List Arrival) (last : ℕ) (shown : Shown) (n : ℕ) (p : Point) →
+        IsFirstShown file words disk (dialog_of [] (Some []) 0) recorded shown → IsInOrder recorded last → IsCalm p → IsAfter shown.start n p →
+        (cpu : Cpu) × (memory : List ℕ) × IsStart file words (Ok (cpu, memory))
+        × PlayedRunEnds (λ image. image) (λ image. 0) n (first_state cpu memory disk) (limit_end p.end) (record { run = run_of p.state; turns = n; arrivals = came_before n recorded; shown = [] }) }
 {}
 
 /// A run has one state after each number of turns. Two runs that begin in states that look alike are, after as many turns, in states that
-/// look alike: with the same registers, memory, input and output, and the same files on their disks. They go on there, or end for the same
-/// reason. This does not hold of a state in which memory has run out for what the program printed.
+/// look alike: with the same registers, memory, input and output, the same files on their disks, and the same bytes still to come. They go on
+/// there, or end for the same reason. This does not hold of a state in which memory has run out for what the program printed or for a byte
+/// that came.
 pub fn one_state()
     ensures { (printed : List ℕ) (start beginning : MemoryState) (n : ℕ) (p q : Point) →
         AlikeStates printed start beginning → IsCalm p → IsCalm q → IsAfter start n p → IsAfter beginning n q → AlikePoints printed p q }
@@ -32,11 +50,11 @@ pub fn one_state()
     z80_machine::laws::one_turn();
 }
 
-/// What a debugger shows is a function of the program, its words, its disk, its input, and the number of the turn that it was to show. It
-/// does not matter which commands led there, and which states were kept on the way.
+/// What a debugger shows is a function of the program, its words, its disk, its input, the bytes of the record, and the number of the turn that
+/// it was to show. It does not matter which commands led there, and which states were kept on the way.
 pub fn one_session()
-    ensures { (file : List ℕ) (words : List (List ℕ)) (disk other : Mounted Image) (input : List ℕ) (turn : ℕ) (one two : Shown) →
-        AlikeDisks (λ image. image) disk other → ShowsRun file words disk input turn one → ShowsRun file words other input turn two →
+    ensures { (file : List ℕ) (words : List (List ℕ)) (disk other : Mounted Image) (input : List ℕ) (recorded : List Arrival) (turn : ℕ) (one two : Shown) →
+        AlikeDisks (λ image. image) disk other → ShowsRun file words disk input recorded turn one → ShowsRun file words other input recorded turn two →
         (two.turn ≡ one.turn) × AlikePoints [] one.point two.point }
 {
     z80_machine::laws::one_turn();

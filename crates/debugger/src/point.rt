@@ -2,17 +2,17 @@
 
 use crate::snapshot::Snapshot;
 use cpm_run::{Why, is_finished};
-use std::alloc::{AllocError, Global};
+use std::alloc::Global;
 use std::marker::Model;
 
 /// A state of a run, and why the run ends in it, if it does.
 #[derive(Drop)]
-pub struct Point {
-    snapshot: Snapshot,
+pub struct Point<'a> {
+    snapshot: Snapshot<'a>,
     end: Option<Why>,
 }
 
-impl Model for Point {
+impl<'a> Model for Point<'a> {
     ghost use Rattle.debugger.specs.Walk.{Point as Value_of_point};
 
     ghost Value = { Value_of_point };
@@ -24,7 +24,7 @@ ghost use Rattle.std.specs.Prelude.{◌≡◌};
 ghost use Rattle.debugger.specs.Walk.{end_after};
 
 /// Why a run ends in a state, given why the turn before it ended the run, if it did.
-fn end_after(by: Option<Why>, snapshot: &Snapshot) -> Option<Why>
+fn end_after(by: Option<Why>, snapshot: &Snapshot<'_>) -> Option<Why>
     ensures { result ≡ end_after by snapshot.now }
 {
     match by {
@@ -39,21 +39,21 @@ fn end_after(by: Option<Why>, snapshot: &Snapshot) -> Option<Why>
     }
 }
 
-impl Point {
-    ghost use Rattle.std.specs.Prelude.{◌≡◌, IfOk, None};
+impl<'a> Point<'a> {
+    ghost use Rattle.std.specs.Prelude.{◌≡◌, ◌-◌, ◌<◌, ◌^◌, None};
     ghost use Rattle.debugger.specs.Walk.{IsNextPoint, first_point};
 
     /// The point at which a run begins.
-    pub(crate) fn first(snapshot: Snapshot) -> Point
-        ensures { result ≡ first_point snapshot }
+    pub(crate) fn first(snapshot: Snapshot<'a>) -> Point<'a>
+        ensures { result ≡ first_point snapshot.entry }
     {
         let end = end_after(None, &snapshot);
         Point { snapshot, end }
     }
 
     /// A point in which the run has not ended.
-    pub(crate) fn going(snapshot: Snapshot) -> Point
-        ensures { result ≡ record { state = snapshot; end = None } }
+    pub(crate) fn going(snapshot: Snapshot<'a>) -> Point<'a>
+        ensures { result ≡ record { state = snapshot.entry; end = None } }
     {
         Point {
             snapshot,
@@ -62,16 +62,17 @@ impl Point {
     }
 
     /// Makes one turn.
-    pub(crate) fn advance(&mut self)
-        requires { self.old.end ≡ None }
+    pub(crate) fn advance(&mut self, alloc: Global)
+        requires going { self.old.end ≡ None }
+        requires room { self.old.state.turns < 2 ^ 64 - 1 }
         ensures { IsNextPoint self.old self.new }
     {
-        let by = self.snapshot.turn();
+        let by = self.snapshot.turn(alloc);
         self.end = end_after(by, &self.snapshot);
     }
 
     /// The state.
-    pub fn snapshot(&self) -> &Snapshot
+    pub fn snapshot(&self) -> &Snapshot<'a>
         ensures { result.now ≡ self.now.state }
     {
         &self.snapshot

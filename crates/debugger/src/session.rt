@@ -1,17 +1,18 @@
 //! A session: commands, a line each, and what is printed for them.
 
 ghost use Rattle.std.specs.Prelude.{◌≡◌};
-ghost use Rattle.debugger.specs.Session.{IsRefusedLine, at_place};
+ghost use Rattle.debugger.specs.Session.{at_place};
 
 use crate::calls::{ReturnPlace, call_place};
 use crate::command::{Command, command_of};
 use crate::history::{History, Outcome};
 use crate::labels::Labels;
 use crate::printing::{put_memory, put_registers};
+use crate::refusal::refusal_line;
 use crate::stops::{Breakpoint, Condition, Goal, Hit, RegisterName, Stops};
 use crate::text::{
-    put_files, put_info, put_instructions, put_new_output, put_outcome, put_output, put_point,
-    put_stack, put_where, put_who,
+    put_breakpoint, put_files, put_instructions, put_new_output, put_outcome, put_output,
+    put_point, put_stack, put_stops, put_watch, put_where, put_who,
 };
 use std::alloc::{AllocError, Global};
 
@@ -19,47 +20,37 @@ use std::alloc::{AllocError, Global};
 pub const MOST_TURNS: u64 = 100_000_000;
 
 const HELP: &[u8] = b"step [N]              make N turns, or one
-back [N]              go back by N turns, or one
-turn N                go to the state after N turns from the start
-run [ADDR]            go on to ADDR, a breakpoint, a watched byte, or the end
 next                  one turn, but over the whole of a call
 finish                go on to the return from this subroutine
+run [ADDR]            go on to ADDR, a breakpoint, a watched byte, or the end
+back [N]              go back by N turns, or one
 back-next             the reverse of next: go back by one turn, but over the whole of a call
 back-run              go back to the last turn at which a breakpoint or a watched byte held
-break ADDR [if REG=N] stop when PC is ADDR
-watch ADDR [N]        stop at a turn that changes one of N bytes
-info                  list the breakpoints and the watched bytes
-delete                forget all of them
-who ADDR              the last turn that changed this byte
-files                 the files of the disk: user, name and records
+turn N                go to the state after N turns from the start
 where                 PC with its label, and its line of the listing
 regs                  the registers, the flags, the DMA address and the user
 mem ADDR [N]          N bytes of memory
 dis ADDR [N]          N instructions
 stack                 the words on top of the stack
 output                what the program has printed
+who ADDR              the last turn that changed this byte
+break ADDR [if REG=N] stop when PC is ADDR
+watch ADDR [N]        stop at a turn that changes one of N bytes
+info                  list the breakpoints and the watched bytes
+delete                forget all of them
+files                 the files of the disk: user, name and records
 help                  this list
 quit                  end the session
-ADDR is a label, a label and a number as in TEXT+1, four hexadecimal digits as they are printed, or a number of
-the assembler, as 125H. A turn that writes the same value does not change a byte.
+A command may be shortened: a word stands for the first command in this list that begins with it, so s is step,
+b is back, and br is break. ADDR is a label, a label and a number as in TEXT+1, four hexadecimal digits as they
+are printed, or a number of the assembler, as 125H. A turn that writes the same value does not change a byte.
 ";
-
-/// What is printed for a line that is not a command: nothing for a blank one.
-fn refusal(line: &[u8]) -> &'static [u8]
-    ensures { IsRefusedLine result.now }
-{
-    if line.iter().all(|b| b.is_ascii_whitespace()) {
-        b""
-    } else {
-        b"not a command; try help\n"
-    }
-}
 
 /// A session about one run.
 #[derive(Drop)]
 pub struct Session<'a> {
     alloc: Global,
-    history: History,
+    history: History<'a>,
     stops: Stops,
     labels: Labels,
     listing: &'a [u8],
@@ -83,6 +74,7 @@ impl<'a> Session<'a> {
     ghost use Rattle.std.specs.Prelude.{◌≡◌, ◌||◌, [], IfOk, false};
     ghost use Rattle.debugger.specs.Calls.{call_place};
     ghost use Rattle.debugger.specs.Stops.{IsLast};
+    ghost use Rattle.debugger.specs.Private.Listing.{ListsStops};
     ghost use Rattle.debugger.specs.Text.{Says, Watches};
     ghost use Rattle.debugger.specs.declared.stops.Stops.{Stops as TheStops};
     ghost use Rattle.debugger.specs.Session.{BackNexts, BackRuns, GoesTo, Obeys, Moves, Nexts, RunsOn, Sets, is_quit};
@@ -90,8 +82,8 @@ impl<'a> Session<'a> {
     ghost use Rattle.debugger.specs.declared.command.Command.TheVariants as command;
 
     /// A session without breakpoints.
-    pub fn new(alloc: Global, history: History, labels: Labels) -> Session<'a>
-        ensures history { result.history ≡ history }
+    pub fn new(alloc: Global, history: History<'a>, labels: Labels) -> Session<'a>
+        ensures history { result.history ≡ history.entry }
         ensures breakpoints { result.stops.breakpoints.items ≡ [] }
         ensures watches { result.stops.watches.items ≡ [] }
         ensures over { result.is_over ≡ false }
@@ -261,7 +253,7 @@ impl<'a> Session<'a> {
 
     /// The registers, the flags, the address of the buffer for records, and the user.
     fn registers(&self) -> Result<Vec<u8>, AllocError>
-        ensures { IfOk result (λ text. Says command.Registers self.now.history self.now.labels self.now.listing.now text.items) }
+        ensures { IfOk result (λ text. Says command.Registers self.now.stops self.now.history self.now.labels self.now.listing.now text.items) }
     {
         let snapshot = self.history.point().snapshot();
         let (cpu, dma, user) = (snapshot.cpu(), snapshot.dma(), snapshot.user());
@@ -272,7 +264,7 @@ impl<'a> Session<'a> {
 
     /// Bytes of memory.
     fn memory(&self, from: u16, count: u16) -> Result<Vec<u8>, AllocError>
-        ensures { IfOk result (λ text. Says (command.Memory from «count») self.now.history self.now.labels self.now.listing.now text.items) }
+        ensures { IfOk result (λ text. Says (command.Memory from «count») self.now.stops self.now.history self.now.labels self.now.listing.now text.items) }
     {
         let memory = self.history.point().snapshot().memory();
         let mut text = Vec::new(self.alloc);
@@ -282,21 +274,60 @@ impl<'a> Session<'a> {
 
     /// The last turn that changed a byte.
     fn who(&self, address: u16) -> Result<Vec<u8>, AllocError>
-        ensures { IfOk result (λ text. Says (command.Who address) self.now.history self.now.labels self.now.listing.now text.items) }
+        ensures { IfOk result (λ text. Says (command.Who address) self.now.stops self.now.history self.now.labels self.now.listing.now text.items) }
     {
         let last = self.last_change(address)?;
         let mut text = Vec::new(self.alloc);
-        put_who(self.alloc, &self.labels, last, &mut text)?;
+        put_who(self.alloc, &self.labels, address, last, &mut text)?;
         Ok(text)
     }
 
     /// PC with its label, and its line of the listing.
     fn place(&self) -> Result<Vec<u8>, AllocError>
-        ensures { IfOk result (λ text. Says command.Where self.now.history self.now.labels self.now.listing.now text.items) }
+        ensures { IfOk result (λ text. Says command.Where self.now.stops self.now.history self.now.labels self.now.listing.now text.items) }
     {
         let pc = self.history.point().snapshot().cpu().pc;
         let mut text = Vec::new(self.alloc);
         put_where(self.alloc, &self.labels, self.listing, pc, &mut text)?;
+        Ok(text)
+    }
+
+    /// The line of a breakpoint.
+    fn breakpoint(&self, breakpoint: Breakpoint) -> Result<Vec<u8>, AllocError>
+        ensures { IfOk result (λ text. Says (command.Break breakpoint) self.now.stops self.now.history self.now.labels self.now.listing.now text.items) }
+    {
+        let mut text = Vec::new(self.alloc);
+        put_breakpoint(self.alloc, &self.labels, breakpoint, &mut text)?;
+        Ok(text)
+    }
+
+    /// The line of watched bytes.
+    fn watched(&self, from: u16, count: u16) -> Result<Vec<u8>, AllocError>
+        ensures { IfOk result (λ text. Says (command.Watch from «count») self.now.stops self.now.history self.now.labels self.now.listing.now text.items) }
+    {
+        let mut text = Vec::new(self.alloc);
+        put_watch(self.alloc, &self.labels, from, count, &mut text)?;
+        Ok(text)
+    }
+
+    /// The lines of the breakpoints and the watched bytes, for the commands that print them.
+    fn listed(&self, command: Command) -> Result<Vec<u8>, AllocError>
+        ensures { IfOk result (λ text. ListsStops command self.now.stops self.now.labels text.items) }
+    {
+        let mut text = Vec::new(self.alloc);
+        match command {
+            Command::Info => put_stops(self.alloc, &self.labels, b"", &self.stops, &mut text)?,
+            Command::Delete => {
+                put_stops(
+                    self.alloc,
+                    &self.labels,
+                    b"deleted ",
+                    &self.stops,
+                    &mut text,
+                )?
+            }
+            _ => {}
+        }
         Ok(text)
     }
 
@@ -330,7 +361,6 @@ impl<'a> Session<'a> {
         let snapshot = self.history.point().snapshot();
         let mut text = Vec::new(self.alloc);
         match command {
-            Command::Info => put_info(self.alloc, &self.labels, &self.stops, &mut text)?,
             Command::Stack => put_stack(self.alloc, &self.labels, snapshot, &mut text)?,
             Command::Output => put_output(snapshot.output(), &mut text)?,
             Command::Files => put_files(self.alloc, snapshot.disk(), &mut text)?,
@@ -339,26 +369,28 @@ impl<'a> Session<'a> {
         Ok(text)
     }
 
-    /// What is printed for a command, which has been done and ended so. `printed` is how many bytes the program had printed before.
+    /// What is printed for a command, which has been done and ended so. `listed` has the lines of the breakpoints and the watched bytes before
+    /// it, if it prints them, and `printed` is how many bytes the program had printed.
     fn said(
         &self,
         command: Command,
         told: Option<Outcome>,
+        listed: Vec<u8>,
         printed: usize,
     ) -> Result<Vec<u8>, AllocError>
-        ensures { IfOk result (λ text. Says command self.now.history self.now.labels self.now.listing.now text.items) }
+        ensures { (stops : TheStops) → ListsStops command stops self.now.labels listed.items → IfOk result (λ text. Says command stops self.now.history self.now.labels self.now.listing.now text.items) }
     {
         match command {
             Command::Registers => self.registers(),
             Command::Memory(from, count) => self.memory(from, count),
             Command::Who(address) => self.who(address),
             Command::Where => self.place(),
-            Command::Break(_) => Ok(Vec::new(self.alloc)),
-            Command::Watch(_, _) => Ok(Vec::new(self.alloc)),
-            Command::Delete => Ok(Vec::new(self.alloc)),
+            Command::Break(breakpoint) => self.breakpoint(breakpoint),
+            Command::Watch(from, count) => self.watched(from, count),
+            Command::Delete => Ok(listed),
+            Command::Info => Ok(listed),
             Command::Quit => Ok(Vec::new(self.alloc)),
             Command::Disassemble(from, count) => self.code(from, count),
-            Command::Info => self.shown(command),
             Command::Stack => self.shown(command),
             Command::Output => self.shown(command),
             Command::Files => self.shown(command),
@@ -374,7 +406,7 @@ impl<'a> Session<'a> {
         }
     }
 
-    /// Obeys a line, and answers what is printed for it. A blank line asks for nothing.
+    /// Obeys a line, and answers what is printed for it: nothing for a blank line, and why for a line that is refused.
     ///
     /// # Errors
     ///
@@ -384,16 +416,17 @@ impl<'a> Session<'a> {
         ensures after { IsTrue_of_run self.new.history }
         ensures labels { self.new.labels ≡ self.old.labels }
         ensures listing { self.new.listing ≡ self.old.listing }
-        ensures obeys { IfOk result (λ text. Obeys self.old.labels self.old.listing.now self.old.history self.old.stops self.old.is_over self.new.history self.new.stops self.new.is_over text.items) }
+        ensures obeys { IfOk result (λ text. Obeys self.old.labels self.old.listing.now line.now self.old.history self.old.stops self.old.is_over self.new.history self.new.stops self.new.is_over text.items) }
     {
-        let words = std::str::from_utf8(line).unwrap_or("");
         let printed = self.history.point().snapshot().output().len();
-        match command_of(self.alloc, words, &self.labels)? {
-            Some(command) => {
+        match command_of(self.alloc, line, &self.labels)? {
+            Ok(Some(command)) => {
+                let listed = self.listed(command)?;
                 let told = self.obey(command)?;
-                self.said(command, told, printed)
+                self.said(command, told, listed, printed)
             }
-            None => Vec::from_slice(self.alloc, refusal(line)),
+            Ok(None) => Ok(Vec::new(self.alloc)),
+            Err(refused) => refusal_line(self.alloc, refused),
         }
     }
 }

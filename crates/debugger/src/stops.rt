@@ -38,6 +38,7 @@ pub enum RegisterName {
 impl RegisterName {
     ghost use Rattle.std.specs.Prelude.{◌≡◌};
     ghost use Rattle.debugger.specs.Stops.{named_register};
+    ghost use Rattle.debugger.specs.Typed.{register_name};
 
     /// The value of the register.
     pub fn value(self, cpu: &Cpu) -> u16
@@ -62,7 +63,9 @@ impl RegisterName {
     }
 
     /// The name of the register.
-    pub(crate) fn name(self) -> &'static str {
+    pub(crate) fn name(self) -> &'static str
+        ensures { result.now ≡ register_name self }
+    {
         match self {
             RegisterName::A => "A",
             RegisterName::B => "B",
@@ -123,6 +126,8 @@ pub struct Change {
     pub after: u8,
     /// PC before the turn: the address of the instruction that changed the byte.
     pub by: u16,
+    /// C before the turn: the function, if the turn is a system call.
+    pub function: u8,
 }
 
 /// What holds at a turn.
@@ -166,7 +171,7 @@ fn may_return(pc: u16, first: u8, second: u8) -> bool
 }
 
 /// SP after the return, if a turn that begins in this state may be one.
-fn sp_returned(snapshot: &Snapshot) -> Option<u16>
+fn sp_returned(snapshot: &Snapshot<'_>) -> Option<u16>
     ensures { result ≡ sp_returned snapshot.now }
 {
     let cpu = snapshot.cpu();
@@ -182,7 +187,7 @@ fn sp_returned(snapshot: &Snapshot) -> Option<u16>
 
 /// SP after the return, if that decides whether the goal is reached by a turn that begins in this state. Other goals do not ask for it, and
 /// most turns have none, so memory is not read for them.
-fn return_for(goal: Option<Goal>, snapshot: &Snapshot) -> Option<u16>
+fn return_for(goal: Option<Goal>, snapshot: &Snapshot<'_>) -> Option<u16>
     ensures { (cpu : TheCpu) → is_reached goal result cpu ≡ is_reached goal (sp_returned snapshot.now) cpu }
 {
     match goal {
@@ -236,10 +241,16 @@ fn bytes_at(alloc: Global, addresses: &[u16], memory: &Memory) -> Result<Vec<u8>
     Ok(bytes)
 }
 
-/// The first of these bytes that has changed, given what they were, and the address of the instruction that was executed.
-fn changed(addresses: &[u16], bytes: &[u8], memory: &Memory, by: u16) -> Option<Change>
+/// The first of these bytes that has changed, given what they were, and PC and C before the turn.
+fn changed(
+    addresses: &[u16],
+    bytes: &[u8],
+    memory: &Memory,
+    by: u16,
+    function: u8,
+) -> Option<Change>
     requires { length bytes.now ≡ length addresses.now }
-    ensures { (old : List ℕ) → bytes.now ≡ map (λ address. byte_at address old) addresses.now → result ≡ changed old memory.now by addresses.now }
+    ensures { (old : List ℕ) → bytes.now ≡ map (λ address. byte_at address old) addresses.now → result ≡ changed old memory.now by function addresses.now }
 {
     for (index, address) in addresses.iter().enumerate() {
         let before = bytes[index];
@@ -250,6 +261,7 @@ fn changed(addresses: &[u16], bytes: &[u8], memory: &Memory, by: u16) -> Option<
                 before,
                 after,
                 by,
+                function,
             });
         }
     }
@@ -285,7 +297,7 @@ pub struct Stops {
 }
 
 impl Stops {
-    ghost use Rattle.std.specs.Prelude.{◌≡◌, [], None, IfOk, OnErr};
+    ghost use Rattle.std.specs.Prelude.{◌≡◌, ◌-◌, ◌<◌, ◌^◌, [], None, IfOk, OnErr};
     ghost use Rattle.debugger.specs.Stops.{hit_at};
     ghost use Rattle.debugger.specs.Session.{Sets};
     ghost use Rattle.debugger.specs.Walk.{IsNextPoint};
@@ -310,9 +322,10 @@ impl Stops {
         &self,
         alloc: Global,
         goal: Option<Goal>,
-        point: &mut Point,
+        point: &mut Point<'_>,
     ) -> Result<Option<Hit>, AllocError>
-        requires { point.old.end ≡ None }
+        requires going { point.old.end ≡ None }
+        requires room { point.old.state.turns < 2 ^ 64 - 1 }
         ensures next { IfOk result (λ _. IsNextPoint point.old point.new) }
         ensures held { IfOk result (λ held. held ≡ hit_at goal self.now point.old.state point.new.state) }
         ensures kept { OnErr result (point.new ≡ point.old) }
@@ -320,10 +333,11 @@ impl Stops {
         let bytes = bytes_at(alloc, &self.watches, point.snapshot().memory())?;
         let returned = return_for(goal, point.snapshot());
         let by = point.snapshot().cpu().pc;
-        point.advance();
+        let function = point.snapshot().cpu().main.c;
+        point.advance(alloc);
         let snapshot = point.snapshot();
         let cpu = snapshot.cpu();
-        let change = changed(&self.watches, &bytes, snapshot.memory(), by);
+        let change = changed(&self.watches, &bytes, snapshot.memory(), by, function);
         Ok(first_of(
             broken(&self.breakpoints, cpu),
             change,

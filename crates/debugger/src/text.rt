@@ -1,8 +1,8 @@
 //! What a session prints.
 
-ghost use Rattle.std.specs.Prelude.{◌≡◌, ◌++◌, ◌∷◌, [], OnOk, option_map};
+ghost use Rattle.std.specs.Prelude.{◌≡◌, ◌<◌, ◌++◌, ◌∷◌, [], OnOk, option_map, true};
 ghost use Rattle.hex.specs.Hex.{encode_upper};
-ghost use Rattle.debugger.specs.Text.{labelled_address, change_line, label_after, listing_text, line_with, values_text, where_text, who_text};
+ghost use Rattle.debugger.specs.Text.{labelled_address, breakpoint_line, breakpoint_lines, call_text, change_line, changer_text, condition_after, count_after, follows, label_after, listing_text, line_with, stops_text, unchanged_line, values_text, watch_line, watched_line, watched_lines, where_text, who_text};
 
 use crate::history::Outcome;
 use crate::labels::{Labels, put_label};
@@ -10,7 +10,7 @@ use crate::point::Point;
 use crate::printing::{put_word, shown_character};
 use crate::session::MOST_TURNS;
 use crate::snapshot::Snapshot;
-use crate::stops::{Breakpoint, Change, Hit, Stops};
+use crate::stops::{Breakpoint, Change, Condition, Hit, Stops};
 use bstr::ByteSlice;
 use cpm_disk::Disk;
 use cpm_image::MemoryImage;
@@ -108,7 +108,7 @@ pub(crate) fn put_point(
     alloc: Global,
     labels: &Labels,
     turn: u64,
-    point: &Point,
+    point: &Point<'_>,
     text: &mut Vec<u8>,
 ) -> Result<(), AllocError> {
     let snapshot = point.snapshot();
@@ -143,7 +143,30 @@ fn put_values(alloc: Global, change: Change, text: &mut Vec<u8>) -> Result<(), A
     put_byte(alloc, change.after, text)
 }
 
-/// A changed byte: its address, its values before and after, and the instruction that changed it.
+/// Appends the function of a system call, if the address is the one that calls the system.
+fn put_call(alloc: Global, address: u16, function: u8, text: &mut Vec<u8>) -> Result<(), AllocError>
+    ensures { OnOk result (text.new.items ≡ text.old.items ++ call_text address function) }
+{
+    if address != BDOS {
+        return Ok(());
+    }
+    text.extend_from_slice(format!(in alloc; ": BDOS {function}")?.as_bytes())
+}
+
+/// Appends the instruction that changed a byte, or the system call.
+fn put_changer(
+    alloc: Global,
+    labels: &Labels,
+    change: Change,
+    text: &mut Vec<u8>,
+) -> Result<(), AllocError>
+    ensures { OnOk result (text.new.items ≡ text.old.items ++ changer_text labels.now change) }
+{
+    put_address(alloc, labels, change.by, text)?;
+    put_call(alloc, change.by, change.function, text)
+}
+
+/// A changed byte: its address, its values before and after, and what changed it.
 pub(crate) fn put_change(
     alloc: Global,
     labels: &Labels,
@@ -155,25 +178,40 @@ pub(crate) fn put_change(
     put_address(alloc, labels, change.address, text)?;
     put_values(alloc, change, text)?;
     text.extend_from_slice(b" by ")?;
-    put_address(alloc, labels, change.by, text)?;
+    put_changer(alloc, labels, change, text)?;
     text.extend_from_slice(b"\n")
 }
 
-/// The line of the last turn that changed a byte, if one has.
+/// The line that says that no turn has changed the byte at an address.
+fn put_unchanged(
+    alloc: Global,
+    labels: &Labels,
+    address: u16,
+    text: &mut Vec<u8>,
+) -> Result<(), AllocError>
+    ensures { OnOk result (text.new.items ≡ text.old.items ++ unchanged_line labels.now address) }
+{
+    text.extend_from_slice(b"no turn has changed ")?;
+    put_address(alloc, labels, address, text)?;
+    text.extend_from_slice(b"\n")
+}
+
+/// The line of the last turn that changed the byte at an address; or that none has.
 pub(crate) fn put_who(
     alloc: Global,
     labels: &Labels,
+    address: u16,
     last: Option<(u64, Hit)>,
     text: &mut Vec<u8>,
 ) -> Result<(), AllocError>
-    ensures { OnOk result (text.new.items ≡ text.old.items ++ who_text labels.now last) }
+    ensures { OnOk result (text.new.items ≡ text.old.items ++ who_text labels.now address last) }
 {
     match last {
         Some((turn, Hit::Changed(change))) => {
             text.extend_from_slice(format!(in alloc; "turn {turn} changed ")?.as_bytes())?;
             put_change(alloc, labels, change, text)
         }
-        _ => text.extend_from_slice(b"no turn has changed it\n"),
+        _ => put_unchanged(alloc, labels, address, text),
     }
 }
 
@@ -202,66 +240,146 @@ pub(crate) fn put_outcome(
     }
 }
 
+/// Appends the condition of a breakpoint, if it has one.
+fn put_condition(
+    alloc: Global,
+    condition: Option<Condition>,
+    text: &mut Vec<u8>,
+) -> Result<(), AllocError>
+    ensures { OnOk result (text.new.items ≡ text.old.items ++ condition_after condition) }
+{
+    let Some(condition) = condition else {
+        return Ok(());
+    };
+    text.extend_from_slice(b" if ")?;
+    text.extend_from_slice(condition.register.name().as_bytes())?;
+    text.extend_from_slice(b"=")?;
+    put_word(alloc, text, condition.value)
+}
+
 /// The line of a breakpoint.
-fn put_breakpoint(
+pub(crate) fn put_breakpoint(
     alloc: Global,
     labels: &Labels,
-    breakpoint: &Breakpoint,
+    breakpoint: Breakpoint,
     text: &mut Vec<u8>,
-) -> Result<(), AllocError> {
+) -> Result<(), AllocError>
+    ensures { OnOk result (text.new.items ≡ text.old.items ++ breakpoint_line labels.now breakpoint) }
+{
     text.extend_from_slice(b"break ")?;
     put_address(alloc, labels, breakpoint.address, text)?;
-    if let Some(condition) = breakpoint.condition {
-        let (name, value) = (condition.register.name(), condition.value);
-        text.extend_from_slice(format!(in alloc; " if {name}={value:04X}")?.as_bytes())?;
-    }
+    put_condition(alloc, breakpoint.condition, text)?;
     text.extend_from_slice(b"\n")
 }
 
-/// The line of watched bytes that follow each other, if there are some.
-fn put_watched(
+/// Appends how many bytes are watched, unless it is one.
+fn put_count(alloc: Global, count: u16, text: &mut Vec<u8>) -> Result<(), AllocError>
+    ensures { OnOk result (text.new.items ≡ text.old.items ++ count_after count) }
+{
+    if count == 1 {
+        return Ok(());
+    }
+    text.extend_from_slice(format!(in alloc; ", {count} bytes")?.as_bytes())
+}
+
+/// The line of watched bytes that follow each other.
+pub(crate) fn put_watch(
     alloc: Global,
     labels: &Labels,
     from: u16,
     count: u16,
     text: &mut Vec<u8>,
-) -> Result<(), AllocError> {
-    if count == 0 {
-        return Ok(());
-    }
+) -> Result<(), AllocError>
+    ensures { OnOk result (text.new.items ≡ text.old.items ++ watch_line labels.now from count) }
+{
     text.extend_from_slice(b"watch ")?;
     put_address(alloc, labels, from, text)?;
-    if count > 1 {
-        text.extend_from_slice(format!(in alloc; ", {count} bytes")?.as_bytes())?;
-    }
+    put_count(alloc, count, text)?;
     text.extend_from_slice(b"\n")
 }
 
-/// The lines of the breakpoints and of the watched bytes, in the order in which they were set.
-pub(crate) fn put_info(
+/// The same after some text, if there are such bytes.
+fn put_watched(
     alloc: Global,
     labels: &Labels,
-    stops: &Stops,
+    before: &[u8],
+    from: u16,
+    count: u16,
     text: &mut Vec<u8>,
-) -> Result<(), AllocError> {
-    if stops.breakpoints.is_empty() && stops.watches.is_empty() {
-        return text.extend_from_slice(b"no breakpoints, and no watched bytes\n");
+) -> Result<(), AllocError>
+    ensures { OnOk result (text.new.items ≡ text.old.items ++ watched_line before.now labels.now from count) }
+{
+    if count == 0 {
+        return Ok(());
     }
-    for breakpoint in &stops.breakpoints {
-        put_breakpoint(alloc, labels, breakpoint, text)?;
-    }
-    let mut from: u16 = 0;
-    let mut count: u16 = 0;
-    for address in &stops.watches {
-        if count > 0 && count < u16::MAX && *address == from.wrapping_add(count) {
+    text.extend_from_slice(before)?;
+    put_watch(alloc, labels, from, count, text)
+}
+
+/// Whether an address follows this many bytes, so that one line can name all of them.
+fn follows(from: u16, count: u16, address: u16) -> bool
+    ensures follows { result ≡ follows from count address }
+    ensures room { result ≡ true → count < 0xFFFF }
+{
+    count > 0 && count < u16::MAX && address == from.wrapping_add(count)
+}
+
+/// The lines of watched bytes, each after some text. Bytes that follow each other share a line.
+fn put_watches(
+    alloc: Global,
+    labels: &Labels,
+    before: &[u8],
+    watches: &[u16],
+    text: &mut Vec<u8>,
+) -> Result<(), AllocError>
+    ensures { OnOk result (text.new.items ≡ text.old.items ++ watched_lines before.now labels.now 0 0 watches.now) }
+{
+    let mut from = 0;
+    let mut count = 0;
+    for address in watches {
+        if follows(from, count, *address) {
             count += 1;
         } else {
-            put_watched(alloc, labels, from, count, text)?;
+            put_watched(alloc, labels, before, from, count, text)?;
             from = *address;
             count = 1;
         }
     }
-    put_watched(alloc, labels, from, count, text)
+    put_watched(alloc, labels, before, from, count, text)
+}
+
+/// The lines of breakpoints, each after some text.
+fn put_breakpoints(
+    alloc: Global,
+    labels: &Labels,
+    before: &[u8],
+    breakpoints: &[Breakpoint],
+    text: &mut Vec<u8>,
+) -> Result<(), AllocError>
+    ensures { OnOk result (text.new.items ≡ text.old.items ++ breakpoint_lines before.now labels.now breakpoints.now) }
+{
+    for breakpoint in breakpoints {
+        text.extend_from_slice(before)?;
+        put_breakpoint(alloc, labels, *breakpoint, text)?;
+    }
+    Ok(())
+}
+
+/// The lines of the breakpoints and of the watched bytes, in the order in which they were set, each after some text.
+pub(crate) fn put_stops(
+    alloc: Global,
+    labels: &Labels,
+    before: &[u8],
+    stops: &Stops,
+    text: &mut Vec<u8>,
+) -> Result<(), AllocError>
+    ensures { OnOk result (text.new.items ≡ text.old.items ++ stops_text before.now labels.now stops.now) }
+{
+    if stops.breakpoints.is_empty() && stops.watches.is_empty() {
+        return text.extend_from_slice(b"no breakpoints, and no watched bytes\n");
+    }
+    put_breakpoints(alloc, labels, before, &stops.breakpoints, text)?;
+    put_watches(alloc, labels, before, &stops.watches, text)
 }
 
 /// Bytes that the program has printed, each line of them after `| `. CR is left out, and other bytes that are no characters are dots.
@@ -291,7 +409,7 @@ pub(crate) fn put_output(output: &[u8], text: &mut Vec<u8>) -> Result<(), AllocE
 /// What the program has printed between two states.
 pub(crate) fn put_new_output(
     before: usize,
-    now: &Snapshot,
+    now: &Snapshot<'_>,
     text: &mut Vec<u8>,
 ) -> Result<(), AllocError> {
     put_output(now.output().get(before..).unwrap_or(&[]), text)
@@ -301,7 +419,7 @@ pub(crate) fn put_new_output(
 pub(crate) fn put_instructions(
     alloc: Global,
     labels: &Labels,
-    snapshot: &Snapshot,
+    snapshot: &Snapshot<'_>,
     from: u16,
     count: u16,
     text: &mut Vec<u8>,
@@ -322,7 +440,7 @@ pub(crate) fn put_instructions(
 pub(crate) fn put_stack(
     alloc: Global,
     labels: &Labels,
-    snapshot: &Snapshot,
+    snapshot: &Snapshot<'_>,
     text: &mut Vec<u8>,
 ) -> Result<(), AllocError> {
     for number in 0..STACK_WORDS {

@@ -1,6 +1,6 @@
 //! Answers the commands of a session.
 
-use crate::input::{Debugged, begin, symbols_of};
+use crate::input::{Debugged, begin, record_of, symbols_of};
 use crate::walk::walk;
 use debugger::{Labels, Session};
 use row_text::Row;
@@ -50,9 +50,18 @@ pub(crate) fn answer(row: &mut Row, lines: &[String]) {
         row.refuse("hexadecimal digits");
         return;
     };
+    let (typed, record) = match typed.as_str().strip_prefix("record ") {
+        Some(record) => ("", record),
+        None => (typed.as_str(), ""),
+    };
+    let Some(recorded) = record_of(row.alloc(), record) else {
+        row.refuse("a record");
+        return;
+    };
     let program = Debugged {
         file: &bytes,
-        typed: typed.as_str(),
+        typed,
+        recorded: &recorded,
     };
     answer_commands(row, program, labels.as_str(), commands);
 }

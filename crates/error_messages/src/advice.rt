@@ -6,7 +6,7 @@ use crate::intel::row_of;
 type Row = (&'static str, &'static str);
 
 const FILES: &str =
-    "give several sources to `build`; definitions that they share go into a file for `--with`";
+    "leave it out: give a file of EQU lines and macros by `--with`, and other files as sources to `build`";
 
 const INCLUDED_BYTES: &str = "write the bytes of the file as DB lines";
 
@@ -108,7 +108,7 @@ const CONDITIONS: [Row; 27] = [
     ("IFUSED", PASSES),
 ];
 
-const REPETITIONS: [Row; 17] = [
+const REPETITIONS: [Row; 18] = [
     ("IRP", LISTS),
     ("IRPC", LISTS),
     (".IRP", LISTS),
@@ -123,6 +123,7 @@ const REPETITIONS: [Row; 17] = [
     ("MEND", "`ENDM`"),
     (".MACRO", "`NAME MACRO p,..`"),
     ("WHILE", "`REPT n` .. `ENDM`"),
+    ("WEND", "`ENDM`"),
     ("PROC", NAMESPACES),
     ("ENDP", NAMESPACES),
     ("MODULE", NAMESPACES),
@@ -192,7 +193,7 @@ const LISTINGS: [Row; 35] = [
     ("SAVEBIN", MODE),
 ];
 
-const DATA: [Row; 40] = [
+const DATA: [Row; 43] = [
     (".DB", "`DB`"),
     (".BYTE", "`DB`"),
     ("BYTE", "`DB`"),
@@ -204,6 +205,9 @@ const DATA: [Row; 40] = [
     ("TEXT", "`DB`"),
     ("ASC", "`DB`"),
     (".ASCIZ", "`DB 'text',0`"),
+    ("ASCIZ", "`DB 'text',0`"),
+    ("DEFZ", "`DB 'text',0`"),
+    ("STRINGZ", "`DB 'text',0`"),
     (".ASCIS", "`DB 'tex','t'+80H`"),
     ("DC", "`DB 'tex','t'+80H`"),
     ("DZ", "`DB 'text',0`"),
@@ -246,6 +250,18 @@ pub(crate) fn directive_instead(word: &str) -> Option<&'static str> {
         .or(row_of(&DATA, word))
 }
 
+/// Directives of other assemblers that are none without an operand, and that are names which a program may have.
+const WITH_OPERANDS: [&str; 24] = [
+    "PRINT", "NAME", "TITLE", "GET", "INSERT", "BINARY", "LIB", "DEFINE", "OUTPUT", "DEVICE",
+    "CPU", "TEXT", "BYTE", "WORD", "ADDR", "BLOCK", "SPACE", "ENTRY", "DATA", "ALIGN", "DISP",
+    "AREA", "SECTION", "SEGMENT",
+];
+
+/// Whether a word in upper case is a directive of another assembler only with an operand.
+pub(crate) fn needs_operands(word: &str) -> bool {
+    lists(&WITH_OPERANDS, word)
+}
+
 /// What a word of another assembler opens.
 #[derive(Clone, Copy)]
 pub(crate) enum Opening {
@@ -268,7 +284,7 @@ const OPEN_REPETITION: [&str; 8] = [
 const CLOSE_CONDITION: [&str; 3] = ["ENDC", ".ENDIF", "FI"];
 
 /// The words of other assemblers that close a repetition or a macro.
-const CLOSE_REPETITION: [&str; 6] = ["EDUP", "ENDR", ".ENDR", "ENDMACRO", ".ENDM", "MEND"];
+const CLOSE_REPETITION: [&str; 7] = ["EDUP", "ENDR", ".ENDR", "ENDMACRO", ".ENDM", "MEND", "WEND"];
 
 /// Whether a list has a word.
 fn lists(words: &[&str], word: &str) -> bool {
@@ -312,7 +328,7 @@ const UNDOCUMENTED: [Row; 16] = [
     ("OTDM", "it is an instruction of the Z180"),
     ("OTIMR", "it is an instruction of the Z180"),
     ("OTDMR", "it is an instruction of the Z180"),
-    ("SWAP", "four times `RLCA`"),
+    ("SWAP", "in A: four times `RLCA`"),
 ];
 
 /// What to write instead of an undocumented instruction, given in upper case; None if it is none.

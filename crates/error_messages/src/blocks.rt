@@ -3,10 +3,13 @@
 use crate::advice::{Opening, directive_instead, opens};
 use crate::case::Case;
 use crate::draft::Draft;
-use crate::lines::{Wanted, first_line, other_opener, word_in};
+use crate::lines::{
+    Divided, closers_after, is_in_repetition, open_condition, other_opener, tokens_of, word_in,
+};
 use crate::reserved::reserved_text;
-use crate::showing::shown;
-use asm_line::{BlockWord, Head, is_name};
+use crate::showing::{joined, shown};
+use crate::worth::{Worth, judge};
+use asm_line::{BlockWord, Head, form_of, is_name, is_word};
 use asm_scan::{Kind, Mark};
 use common::is_reserved;
 use std::alloc::{AllocError, Global};
@@ -32,10 +35,10 @@ fn owned(alloc: Global, text: &str) -> Result<String, AllocError> {
 /// The message about a block without its end.
 pub(crate) fn unclosed(case: &Case<'_>) -> Result<Draft, AllocError> {
     let alloc = case.alloc;
-    let (word, end) = match case.form.head {
-        Head::Macro(_) => ("MACRO", "ENDM"),
-        Head::Block(BlockWord::Rept) => ("REPT", "ENDM"),
-        Head::Block(BlockWord::If) => ("IF", "ENDIF"),
+    let (word, end, opening) = match case.form.head {
+        Head::Macro(_) => ("MACRO", "ENDM", Opening::Repetition),
+        Head::Block(BlockWord::Rept) => ("REPT", "ENDM", Opening::Repetition),
+        Head::Block(BlockWord::If) => ("IF", "ENDIF", Opening::Condition),
         _ => {
             let name = shown(alloc, case.word())?;
             let text = format!(in alloc; "a block in the macro `{name}` is not closed in it")?;
@@ -46,9 +49,70 @@ pub(crate) fn unclosed(case: &Case<'_>) -> Result<Draft, AllocError> {
         }
     };
     let text = format!(in alloc; "this {word} has no {end}")?;
-    case.on_word(text).help(format!(in alloc;
-        "a block that begins in a branch, a macro or a REPT ends there too"
-    )?)
+    with_end(case, case.on_word(text), end, opening)
+}
+
+/// The message about a block without its end, which also says what to write.
+fn with_end(
+    case: &Case<'_>,
+    draft: Draft,
+    end: &str,
+    opening: Opening,
+) -> Result<Draft, AllocError> {
+    let alloc = case.alloc;
+    let found = closers_after(alloc, case.source, case.finding.number, opening)?;
+    if found.is_closed || case.is_expanded() {
+        return draft.help(owned(
+            alloc,
+            "a block that begins in a branch, a macro or a REPT ends there too",
+        )?);
+    }
+    if let Some(line) = found.other {
+        let word = word_in(alloc, case.source.line(line))?;
+        let at = case.at_line(line)?;
+        return draft.help(format!(in alloc; "{word} {at} is not supported: write `{end}`")?);
+    }
+    let draft = match found.last {
+        Some((closer, opener)) => {
+            let closes = block_word_at(case, closer)?;
+            let opens = block_word_at(case, opener)?;
+            draft.note(format!(in alloc; "the {closes} closes the {opens}")?)?
+        }
+        None => draft,
+    };
+    draft.help(format!(in alloc; "write {end} after its last line")?)
+}
+
+/// The block word of a line, and where that is: `ENDIF at line 12`.
+fn block_word_at(case: &Case<'_>, number: u32) -> Result<String, AllocError> {
+    let found = tokens_of(case.alloc, case.source.line(number))?;
+    let word = match form_of(&found).head {
+        Head::Block(block) => block_text(block),
+        _ => "MACRO",
+    };
+    let at = case.at_line(number)?;
+    format!(in case.alloc; "{word} {at}")
+}
+
+/// The message about the second ELSE of an IF; None if it is none, or is in a macro or a REPT.
+fn second_else(case: &Case<'_>) -> Result<Option<Draft>, AllocError> {
+    let alloc = case.alloc;
+    if case.is_expanded() {
+        return Ok(None);
+    }
+    match open_condition(alloc, case.source, case.finding.number)? {
+        Some(
+            Divided {
+                opener,
+                other: Some(other),
+            },
+        ) => {
+            let (opener, other) = (case.at_line(opener)?, case.at_line(other)?);
+            let text = format!(in alloc; "the IF {opener} has an ELSE already, {other}")?;
+            Ok(Some(case.on_word(text)))
+        }
+        _ => Ok(None),
+    }
 }
 
 /// The message about a word that closes or divides a block that is not open.
@@ -67,8 +131,15 @@ fn closes_none(
     let text = format!(in alloc; "this {word} {verb} no {opener}")?;
     let draft = case.on_word(text);
     let before = case.finding.number;
+    if word == "ELSE" {
+        if let Some(draft) = second_else(case)? {
+            return Ok(draft);
+        }
+    }
     let Some(line) = other_opener(alloc, case.source, before, opening)? else {
-        return Ok(draft);
+        return draft.help(format!(in alloc;
+            "leave it out, or write the missing {opener} above it"
+        )?);
     };
     let found = word_in(alloc, case.source.line(line))?;
     let at = case.at_line(line)?;
@@ -112,6 +183,39 @@ fn other_opens(case: &Case<'_>) -> Result<Option<Draft>, AllocError> {
     Ok(Some(draft.help_if(help)?))
 }
 
+/// What to write instead of ELSE, ENDIF or ENDM with operands.
+fn without_operands(case: &Case<'_>) -> &'static str {
+    let is_if = case
+        .form
+        .rest
+        .first()
+        .is_some_and(|token| is_word(b"IF", token));
+    match directive_instead("ELSEIF") {
+        Some(better) if is_if => better,
+        _ => "a comment starts with `;`",
+    }
+}
+
+/// The message about a LOCAL in the wrong place.
+fn stray_local(case: &Case<'_>) -> Result<Draft, AllocError> {
+    let alloc = case.alloc;
+    // A list has one name more than it has commas.
+    if case.form.rest.len() % 2 == 0 || !are_parameters(case) {
+        let text = owned(alloc, "LOCAL lists names with commas between them")?;
+        return Ok(case.on_word(text));
+    }
+    if !is_in_repetition(alloc, case.source, case.finding.number)? {
+        return case
+            .on_word(owned(alloc, "LOCAL belongs to a macro")?)
+            .help(owned(alloc, "leave it out")?);
+    }
+    case.on_word(owned(alloc, "LOCAL must be in the first lines of a macro's body")?)
+        .help(owned(
+            alloc,
+            "move it directly below the MACRO line; a blank or comment line before it is too much",
+        )?)
+}
+
 /// The message about a block word in the wrong place.
 fn stray_block(case: &Case<'_>, block: BlockWord) -> Result<Draft, AllocError> {
     let alloc = case.alloc;
@@ -124,21 +228,11 @@ fn stray_block(case: &Case<'_>, block: BlockWord) -> Result<Draft, AllocError> {
         BlockWord::Macro => case
             .on_word(owned(alloc, "a macro's name comes before MACRO")?)
             .help(owned(alloc, "`NAME MACRO p,..`")?),
-        // A list has one name more than it has commas.
-        BlockWord::Local if rest % 2 == 0 || !are_parameters(case) => Ok(case.on_word(owned(
-            alloc,
-            "LOCAL lists names with commas between them",
-        )?)),
-        BlockWord::Local => case
-            .on_word(owned(alloc, "LOCAL must be in the first lines of a macro's body")?)
-            .help(owned(
-                alloc,
-                "move it directly below the MACRO line; a blank or comment line before it is too much",
-            )?),
+        BlockWord::Local => stray_local(case),
         BlockWord::Else | BlockWord::EndIf | BlockWord::EndM if rest > 0 => {
             let text = format!(in alloc; "{word} takes no operands")?;
             case.draft(case.rest_at(), rest, text)
-                .help(owned(alloc, "a comment starts with `;`")?)
+                .help(owned(alloc, without_operands(case))?)
         }
         BlockWord::Else | BlockWord::EndIf => closes_none(case, word, "IF", Opening::Condition),
         BlockWord::EndM => closes_none(case, word, "MACRO or REPT", Opening::Repetition),
@@ -183,14 +277,20 @@ fn stray_macro(case: &Case<'_>, name: &[u8]) -> Result<Draft, AllocError> {
             .draft(0, 2, text)
             .help(owned(alloc, "put the label on a line of its own")?);
     }
-    if !are_parameters(case) {
+    let count = case.form.rest.len();
+    // A list has one name more than it has commas.
+    let ends_with_comma = count > 0 && count % 2 == 0;
+    if !are_parameters(case) || ends_with_comma {
         let text = owned(
             alloc,
             "the parameters of a macro are names with commas between them",
         )?;
-        return case
-            .draft(case.rest_at(), case.form.rest.len(), text)
-            .help(format!(in alloc; "`{name} MACRO p,..`")?);
+        let draft = if are_parameters(case) {
+            case.draft(case.tokens.len().saturating_sub(1), 1, text)
+        } else {
+            case.draft(case.rest_at(), count, text)
+        };
+        return draft.help(format!(in alloc; "`{name} MACRO p,..`")?);
     }
     let text = owned(alloc, "a macro cannot be defined in a macro or in a REPT")?;
     case.on_word(text)
@@ -232,10 +332,31 @@ pub(crate) fn too_many_lines(case: &Case<'_>) -> Result<Draft, AllocError> {
         alloc,
         "the source takes more than 60,000 lines, those of calls and repetitions included",
     )?;
-    case.on_word(text).help(owned(
+    let draft = match negative_count(case)? {
+        Some(note) => case.on_word(text).note(note)?,
+        None => case.on_word(text),
+    };
+    draft.help(owned(
         alloc,
         "divide it into modules; write many equal bytes as `DS n,byte`",
     )?)
+}
+
+/// What the count of the REPT is from which the line comes, if it is written as a negative number.
+fn negative_count(case: &Case<'_>) -> Result<Option<String>, AllocError> {
+    let alloc = case.alloc;
+    let found = tokens_of(alloc, case.source.line(case.finding.number))?;
+    let form = form_of(&found);
+    if !matches!(form.head, Head::Block(BlockWord::Rept)) {
+        return Ok(None);
+    }
+    match judge(case, form.rest)? {
+        Worth::Number(count) if count >= 0x8000 => {
+            let written = joined(alloc, form.rest)?;
+            Ok(Some(format!(in alloc; "`REPT {written}` is {count} times")?))
+        }
+        _ => Ok(None),
+    }
 }
 
 /// The message about a second macro of one name.
@@ -255,57 +376,4 @@ pub(crate) fn redefined(case: &Case<'_>) -> Result<Draft, AllocError> {
         _ => draft,
     };
     draft.help(owned(alloc, "give one of the two another name")?)
-}
-
-/// The first name or `$` of a condition that no EQU line above defines: its number among the tokens.
-fn unknown_in_condition(case: &Case<'_>) -> Result<usize, AllocError> {
-    let alloc = case.alloc;
-    for (at, token) in case.form.rest.iter().enumerate() {
-        let number = case.rest_at().saturating_add(at);
-        if let Kind::Mark(Mark::Dollar) = token.kind {
-            return Ok(number);
-        }
-        if is_name(token) {
-            let upper = token.text.to_ascii_uppercase(alloc)?;
-            if !is_reserved(&upper) && !is_equ_above(case, &upper)? {
-                return Ok(number);
-            }
-        }
-    }
-    Ok(case.rest_at())
-}
-
-/// Whether an EQU line above the error defines a name.
-fn is_equ_above(case: &Case<'_>, name: &[u8]) -> Result<bool, AllocError> {
-    match first_line(case.alloc, case.source, Wanted::Equ(name))? {
-        Some(line) => Ok(line < case.finding.number),
-        None => Ok(false),
-    }
-}
-
-/// The message about a condition or a count whose value is not known yet.
-pub(crate) fn condition_names_label(case: &Case<'_>) -> Result<Draft, AllocError> {
-    let alloc = case.alloc;
-    let at = unknown_in_condition(case)?;
-    let word = shown(alloc, case.word())?;
-    let name = case.joined(at, 1)?;
-    let text = format!(in alloc;
-        "`{name}` has no value yet: {word} takes names that an EQU line above defines from numbers"
-    )?;
-    let draft = case.draft(at, 1, text);
-    let wanted = match case.tokens.get(at) {
-        Some(token) => token.text,
-        None => &[],
-    };
-    if let Some(line) = first_line(alloc, case.source, Wanted::Equ(wanted))? {
-        let line = case.line_text(line)?;
-        return draft.help(format!(in alloc; "move the EQU line up, which is {line}")?);
-    }
-    if let Some(line) = first_line(alloc, case.source, Wanted::Label(wanted))? {
-        let line = case.line_text(line)?;
-        return draft.note(format!(in alloc;
-            "`{name}` is a label ({line}), and addresses are not known yet"
-        )?);
-    }
-    draft.help(format!(in alloc; "define it above, or with `--define {name}=1`")?)
 }

@@ -4,6 +4,7 @@ use crate::draft::{Draft, Spot};
 use crate::source::SourceLines;
 use asm_line::{Form, Head};
 use asm_scan::Token;
+use bstr::ByteSlice;
 use source_errors::{Finding, Known};
 use std::alloc::{AllocError, Global};
 
@@ -32,11 +33,32 @@ impl<'a> Case<'a> {
         }
     }
 
+    /// The number of the first token of the line's statement: of the name before EQU, and of the word of any other line.
+    pub(crate) fn statement_at(&self) -> usize {
+        match self.form.head {
+            Head::Equ(_) => self.word_at().saturating_sub(1),
+            _ => self.word_at(),
+        }
+    }
+
     /// The line's word as it is written; empty if there is none.
     pub(crate) fn word(&self) -> &'a [u8] {
         match self.tokens.get(self.word_at()) {
             Some(token) => token.text,
             None => &[],
+        }
+    }
+
+    /// Whether the line is in a macro or a repetition, and not as the source has it.
+    pub(crate) fn is_expanded(&self) -> bool {
+        self.source.line(self.finding.number).trim() != self.finding.text.as_slice().trim()
+    }
+
+    /// Whether the line begins with its first token, without a blank before it.
+    pub(crate) fn is_at_margin(&self) -> bool {
+        match (self.finding.text.first(), self.tokens.first()) {
+            (Some(byte), Some(token)) => token.text.first() == Some(byte),
+            _ => false,
         }
     }
 
@@ -78,6 +100,21 @@ impl<'a> Case<'a> {
             return Ok(text);
         }
         format!(in alloc; "at {text}")
+    }
+
+    /// Lines of the source itself by their numbers: `lines 1, 2 and 5`.
+    pub(crate) fn lines_text(&self, numbers: &[u32]) -> Result<String, AllocError> {
+        let alloc = self.alloc;
+        let mut text = String::from_str(alloc, "lines ")?;
+        for (at, number) in numbers.iter().enumerate() {
+            if at > 0 {
+                let is_last = at.saturating_add(1) == numbers.len();
+                text.push_str(if is_last { " and " } else { ", " })?;
+            }
+            let own = number.saturating_sub(self.source.before.lines);
+            text.push_str(&format!(in alloc; "{own}")?)?;
+        }
+        Ok(text)
     }
 
     /// This number of tokens from this one on, as far as there are any.

@@ -86,7 +86,10 @@ fn form_text(mnemonic: Mnemonic, form: Form) -> &'static str {
         Form::AtIndex(IndexRegister::Iy) => "(IY)",
         Form::Displaced(IndexRegister::Ix) => "(IX+d)",
         Form::Displaced(IndexRegister::Iy) => "(IY+d)",
-        Form::AtNumber => "(address)",
+        Form::AtNumber => match mnemonic {
+            Mnemonic::In | Mnemonic::Out => "(port)",
+            _ => "(address)",
+        },
         Form::Number => match mnemonic {
             Mnemonic::Jp | Mnemonic::Call => "an address",
             Mnemonic::Jr | Mnemonic::Djnz => "an address in reach (`$+n`)",

@@ -77,6 +77,26 @@ const OTHERS: [Row; 26] = [
     ("RM", "RET M"),
 ];
 
+/// Words of other processors and languages.
+const FOREIGN: [Row; 16] = [
+    ("GOTO", "JP 1"),
+    ("JUMP", "JP 1"),
+    ("BRA", "JP 1"),
+    ("BEQ", "JP Z,1"),
+    ("BNE", "JP NZ,1"),
+    ("BCS", "JP C,1"),
+    ("BCC", "JP NC,1"),
+    ("JNE", "JP NZ,1"),
+    ("JE", "JP Z,1"),
+    ("GOSUB", "CALL 1"),
+    ("JSR", "CALL 1"),
+    ("BSR", "CALL 1"),
+    ("RETURN", "RET"),
+    ("RTS", "RET"),
+    ("CLC", "OR A"),
+    ("SEC", "SCF"),
+];
+
 /// The statement of a row with this word.
 pub(crate) fn row_of(rows: &[Row], word: &str) -> Option<&'static str> {
     for (own, text) in rows {
@@ -137,15 +157,36 @@ fn put_operand(
     text.push_str(&joined(alloc, operand.tokens)?)
 }
 
-/// The statement of the Z80 that a line of the 8080 is, given its mnemonic in upper case; None if it is no mnemonic of the 8080.
+/// Whether a word in upper case is a mnemonic of the 8080.
+pub(crate) fn is_intel(word: &str) -> bool {
+    pattern_of(word).is_some()
+}
+
+/// The number of operands that a statement of a row takes.
+fn operands_of(pattern: &str) -> usize {
+    if pattern.contains('2') {
+        2
+    } else if pattern.contains('1') || pattern.contains('p') {
+        1
+    } else {
+        0
+    }
+}
+
+/// The statement of the Z80 that a line of the 8080, of another processor or of another language is, given its word in upper case; None if
+/// nothing is known, or if the line has another number of operands.
 pub(crate) fn in_z80(
     alloc: Global,
     word: &str,
     operands: &[Operand<'_>],
 ) -> Result<Option<String>, AllocError> {
-    let Some(pattern) = pattern_of(word) else {
+    let Some(pattern) = pattern_of(word).or(row_of(&FOREIGN, word)) else {
         return Ok(None);
     };
+    let is_any_empty = operands.iter().any(|operand| operand.tokens.is_empty());
+    if is_any_empty || operands.len() != operands_of(pattern) {
+        return Ok(None);
+    }
     let mut text = String::new(alloc);
     for letter in pattern.chars() {
         match letter {

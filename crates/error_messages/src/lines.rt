@@ -1,6 +1,7 @@
 //! Finds lines of a source by what they define or open.
 
 use crate::advice::{Opening, closes, opens};
+use crate::place::token_named;
 use crate::source::SourceLines;
 use asm_line::{BlockWord, Form, Head, form_of};
 use asm_macro::MacroFault;
@@ -17,6 +18,8 @@ pub(crate) enum Wanted<'a> {
     Equ(&'a [u8]),
     /// The label of this name.
     Label(&'a [u8]),
+    /// An EXTRN with this name.
+    External(&'a [u8]),
 }
 
 /// Whether a line that begins like this is wanted.
@@ -27,6 +30,11 @@ fn is_wanted(form: &Form<'_>, wanted: Wanted<'_>) -> bool {
             Some(own) => own.eq_ignore_ascii_case(name),
             None => false,
         },
+        (Wanted::External(name), Head::Word(word)) => {
+            let is_extrn = word.eq_ignore_ascii_case(b"EXTRN")
+                || word.eq_ignore_ascii_case(b"EXTERNAL");
+            is_extrn && token_named(form.rest, 0, name).is_some()
+        }
         _ => false,
     }
 }
@@ -45,6 +53,7 @@ fn may_have(line: &[u8], wanted: Wanted<'_>) -> bool {
     match wanted {
         Wanted::Equ(_) => line.contains_str(b"EQU") || line.contains_str(b"equ"),
         Wanted::Label(_) => line.contains_str(b":"),
+        Wanted::External(_) => line.contains_str(b"EXT") || line.contains_str(b"ext"),
     }
 }
 
@@ -75,6 +84,8 @@ enum Turn {
     /// It opens one by a word of another assembler.
     OpensOther,
     Closes,
+    /// It closes one by a word of another assembler.
+    ClosesOther,
     Neither,
 }
 
@@ -103,7 +114,7 @@ fn other_turn(
         return Ok(Turn::Neither);
     }
     Ok(if does_close {
-        Turn::Closes
+        Turn::ClosesOther
     } else {
         Turn::OpensOther
     })
@@ -150,7 +161,7 @@ pub(crate) fn other_opener(
                 open.push(Some(number))?;
                 last = Some(number);
             }
-            Turn::Closes => drop(open.pop()),
+            Turn::Closes | Turn::ClosesOther => drop(open.pop()),
             Turn::Neither => (),
         }
     }
@@ -159,6 +170,117 @@ pub(crate) fn other_opener(
         Some(None) => last,
         None => None,
     })
+}
+
+/// Whether a line is in a MACRO or a REPT, or calls a macro, as far as the words tell. That may be asked of a LOCAL.
+pub(crate) fn is_in_repetition(
+    alloc: Global,
+    source: &SourceLines<'_>,
+    line: u32,
+) -> Result<bool, AllocError> {
+    let mut open = 0u32;
+    let mut number = 0u32;
+    for _ in 0..source.len() {
+        number = number.saturating_add(1);
+        if number >= line {
+            break;
+        }
+        match turn_of(alloc, source, number, Opening::Repetition)? {
+            Turn::Opens | Turn::OpensOther => open = open.saturating_add(1),
+            Turn::Closes | Turn::ClosesOther => open = open.saturating_sub(1),
+            Turn::Neither => (),
+        }
+    }
+    let found = tokens_of(alloc, source.line(line))?;
+    Ok(open > 0 || !matches!(form_of(&found).head, Head::Block(BlockWord::Local)))
+}
+
+/// An IF that is open at a line, and its ELSE.
+#[derive(Clone, Copy)]
+pub(crate) struct Divided {
+    /// The line of the IF.
+    pub(crate) opener: u32,
+    /// The line of its ELSE.
+    pub(crate) other: Option<u32>,
+}
+
+/// The innermost IF that is open before a line, as far as words of this language tell.
+pub(crate) fn open_condition(
+    alloc: Global,
+    source: &SourceLines<'_>,
+    before: u32,
+) -> Result<Option<Divided>, AllocError> {
+    let mut open = Vec::new(alloc);
+    let mut number = 0u32;
+    for _ in 0..source.len() {
+        number = number.saturating_add(1);
+        if number >= before {
+            break;
+        }
+        let found = tokens_of(alloc, source.line(number))?;
+        match form_of(&found).head {
+            Head::Block(BlockWord::If) => open.push(Divided {
+                opener: number,
+                other: None,
+            })?,
+            Head::Block(BlockWord::Else) => {
+                if let Some(divided) = open.pop() {
+                    open.push(Divided {
+                        opener: divided.opener,
+                        other: divided.other.or(Some(number)),
+                    })?;
+                }
+            }
+            Head::Block(BlockWord::EndIf) => drop(open.pop()),
+            _ => (),
+        }
+    }
+    Ok(open.pop())
+}
+
+/// What closes blocks below a line that opens one.
+#[derive(Clone, Copy)]
+pub(crate) struct Closers {
+    /// The last line that closes a block, and the line that opens this.
+    pub(crate) last: Option<(u32, u32)>,
+    /// The first line that closes one by a word of another assembler.
+    pub(crate) other: Option<u32>,
+    /// Whether a line closes the first block, as far as the words tell.
+    pub(crate) is_closed: bool,
+}
+
+/// What closes blocks of one kind from a line on that opens one.
+pub(crate) fn closers_after(
+    alloc: Global,
+    source: &SourceLines<'_>,
+    opener: u32,
+    opening: Opening,
+) -> Result<Closers, AllocError> {
+    let mut found = Closers {
+        last: None,
+        other: None,
+        is_closed: false,
+    };
+    let mut open = Vec::new(alloc);
+    open.push(opener)?;
+    let mut number = 0u32;
+    for _ in 0..source.len() {
+        number = number.saturating_add(1);
+        if number > opener && !found.is_closed {
+            match turn_of(alloc, source, number, opening)? {
+                Turn::Opens => open.push(number)?,
+                Turn::Closes => {
+                    if let Some(line) = open.pop() {
+                        found.last = Some((number, line));
+                    }
+                    found.is_closed = open.is_empty();
+                }
+                Turn::ClosesOther => found.other = found.other.or(Some(number)),
+                Turn::OpensOther | Turn::Neither => (),
+            }
+        }
+    }
+    Ok(found)
 }
 
 /// The line that opens a block by a word of another assembler, such as IFDEF, if the error is that a later line closes or divides that block;

@@ -3,9 +3,10 @@
 use crate::case::Case;
 use crate::near::differ_little;
 use crate::showing::joined;
-use asm_line::{Head, form_of};
+use crate::trial::do_build;
+use crate::worth::is_expression;
+use asm_line::{BlockWord, Head, form_of, is_word};
 use asm_scan::{Kind, Token};
-use asm_spell::{StmtFault, statement};
 use std::alloc::{AllocError, Global};
 
 /// The most bytes of a word that is looked at. No word of the language is longer.
@@ -25,6 +26,29 @@ const WORDS: [&str; 89] = [
     "EXTERNAL", "ORG", "END", ".Z80", "EQU", "MACRO", "LOCAL", "REPT", "IF", "ELSE", "ENDIF",
     "ENDM",
 ];
+
+/// Words of other assemblers, and the words of the language that do the same. Other words of the language are nearer to them.
+const SAME: [(&[u8], &str); 2] = [(b"SHL", "SLA"), (b"SHR", "SRL")];
+
+/// The word of the language that does what a word of another assembler does, if the line is one of the language with it.
+fn same_word(case: &Case<'_>, written: &[u8]) -> Result<Option<&'static str>, AllocError> {
+    for (own, word) in &SAME {
+        if *own == written && fits(case, word.as_bytes())? {
+            return Ok(Some(*word));
+        }
+    }
+    Ok(None)
+}
+
+/// Whether the line is `NOT A` or only NOT, which are CPL here.
+fn is_complement(case: &Case<'_>, written: &[u8]) -> bool {
+    let is_on_a = match case.form.rest {
+        [] => true,
+        [token] => is_word(b"A", token),
+        _ => false,
+    };
+    is_on_a && written == b"NOT".as_slice()
+}
 
 /// How a word of the language differs from one that is written, by how likely that is.
 #[derive(Clone, Copy, Debug, PartialEq, Eq)]
@@ -81,13 +105,14 @@ fn fits(case: &Case<'_>, word: &[u8]) -> Result<bool, AllocError> {
             tokens.push(*token)?;
         }
     }
-    if let Head::Block(_) = form_of(&tokens).head {
-        return Ok(true);
-    }
-    match statement(case.alloc, &tokens) {
-        Ok(_) => Ok(true),
-        Err(StmtFault::NoMemory) => Err(AllocError),
-        Err(_) => Ok(false),
+    let form = form_of(&tokens);
+    match form.head {
+        Head::Block(BlockWord::If | BlockWord::Rept) => is_expression(case, form.rest),
+        Head::Block(BlockWord::Else | BlockWord::EndIf | BlockWord::EndM) => {
+            Ok(form.rest.is_empty())
+        }
+        Head::Block(_) => Ok(false),
+        _ => do_build(case, &tokens),
     }
 }
 
@@ -105,6 +130,9 @@ fn near_words(alloc: Global, written: &[u8]) -> Result<Vec<&'static str>, AllocE
 
 /// The likeliest word with which the line is one of the language.
 fn nearest(case: &Case<'_>, written: &[u8]) -> Result<Option<&'static str>, AllocError> {
+    if let Some(word) = same_word(case, written)? {
+        return Ok(Some(word));
+    }
     let near = near_words(case.alloc, written)?;
     for wanted in &DIFFERENCES {
         for word in &near {
@@ -124,6 +152,9 @@ pub(crate) fn meant(case: &Case<'_>) -> Result<Option<String>, AllocError> {
     let upper = case.word().to_ascii_uppercase(alloc)?;
     if upper.len() < SHORTEST || upper.len() > LONGEST {
         return Ok(None);
+    }
+    if is_complement(case, &upper) {
+        return Ok(Some(String::from_str(alloc, "CPL")?));
     }
     let Some(word) = nearest(case, &upper)? else {
         return Ok(None);

@@ -1,16 +1,20 @@
 //! Words whose operands are not those that they take.
 
+use crate::apart::is_remark;
+use crate::calls::{divided, replaced};
 use crate::case::Case;
 use crate::draft::Draft;
-use crate::exchange::exchanged;
+use crate::exchange::loaded;
 use crate::forms::{Counts, all_firsts, firsts, is_jump, list_text, name_text, seconds, takes};
+use crate::instead::instead;
 use crate::meant::meant;
 use crate::operands::{Operand, form_written, operands};
 use crate::showing::{joined, shown};
+use crate::trial::builds;
 use asm_line::Head;
 use std::alloc::{AllocError, Global};
 use z80_form::{Form, Mnemonic, Name, mnemonic_of};
-use z80_instr::AluOperation;
+use z80_instr::{AluOperation, BlockOperation, Rotation};
 
 /// An instruction whose operands do not fit.
 #[derive(Drop)]
@@ -63,51 +67,106 @@ impl<'c, 'a> Misfit<'c, 'a> {
         let alloc = self.case.alloc;
         let word = self.word;
         let (l, r) = (self.operand_text(0)?, self.operand_text(1)?);
-        let (left, right) = (self.form(0), self.form(1));
-        let is_a = left == Form::Name(Name::A);
-        let add = Mnemonic::Alu(AluOperation::Add);
-        if self.mnemonic == Mnemonic::Inc && takes(add, &[left, right]) {
-            return Ok(Some(format!(in alloc; "`ADD {l},{r}` adds `{r}`; `INC {l}` adds 1")?));
+        if self.mnemonic == Mnemonic::Inc {
+            if let Some(sum) = self.tried(format!(in alloc; "ADD {l},{r}")?)? {
+                return Ok(Some(format!(in alloc; "{sum} adds `{r}`; `INC {l}` adds 1")?));
+            }
         }
-        let subtract = Mnemonic::Alu(AluOperation::Sub);
-        if self.mnemonic == Mnemonic::Dec && is_a && takes(subtract, &[right]) {
-            return Ok(Some(format!(in alloc;
-                "`SUB {r}` subtracts `{r}` from A; `DEC A` subtracts 1"
-            )?));
+        if self.mnemonic == Mnemonic::Dec && self.form(0) == Form::Name(Name::A) {
+            if let Some(difference) = self.tried(format!(in alloc; "SUB {r}")?)? {
+                return Ok(Some(format!(in alloc;
+                    "{difference} subtracts `{r}` from A; `DEC A` subtracts 1"
+                )?));
+            }
         }
-        if takes(self.mnemonic, &[left]) {
-            return Ok(Some(format!(in alloc;
-                "`{word} {l}` changes it by 1, and a comment starts with `;`"
-            )?));
+        if takes(self.mnemonic, &[self.form(0)]) {
+            return Ok(Some(format!(in alloc; "`{word} {l}` changes it by 1")?));
         }
         Ok(None)
     }
 
-    /// What to write instead of two operands, if the mnemonic takes one.
-    fn one_too_many(&self) -> Result<Option<String>, AllocError> {
+    /// What does the same as an instruction that the Z80 does not have; None if nothing is known.
+    fn instead(&self) -> Result<Option<String>, AllocError> {
+        if let (Mnemonic::Ld, Form::Name(to), Form::Name(from)) = (
+            self.mnemonic,
+            self.form(0),
+            self.form(1),
+        ) {
+            if let Some(text) = loaded(self.case.alloc, to, from)? {
+                return Ok(Some(text));
+            }
+        }
+        instead(self.case, self.mnemonic, self.word, self.operands)
+    }
+
+    /// What to write instead of a change of memory with a register that gets the new byte too, which only undocumented instructions have.
+    fn copied(&self) -> Result<Option<String>, AllocError> {
         let alloc = self.case.alloc;
         let word = self.word;
+        let (l, r) = (self.operand_text(0)?, self.operand_text(1)?);
+        let changed = self.tried(format!(in alloc; "{word} {l}")?)?;
+        let loaded = self.tried(format!(in alloc; "LD {r},{l}")?)?;
+        match (changed, loaded) {
+            (Some(changed), Some(loaded)) => Ok(Some(format!(in alloc; "{changed} and {loaded}")?)),
+            _ => Ok(None),
+        }
+    }
+
+    /// What to write instead of two operands, each of which the mnemonic takes alone.
+    fn each_alone(&self) -> Result<Option<String>, AllocError> {
+        let alloc = self.case.alloc;
+        let word = self.word;
+        let (l, r) = (self.operand_text(0)?, self.operand_text(1)?);
+        let first = self.tried(format!(in alloc; "{word} {l}")?)?;
+        let second = self.tried(format!(in alloc; "{word} {r}")?)?;
+        match (first, second) {
+            (Some(first), Some(second)) => Ok(Some(format!(in alloc;
+                "each has a line of its own: {first} and {second}"
+            )?)),
+            _ => Ok(None),
+        }
+    }
+
+    /// What to write instead of two operands, if the mnemonic takes one.
+    fn one_too_many(&self) -> Result<Option<String>, AllocError> {
         if self.operands.len() != 2 || !self.counts.one {
             return Ok(None);
         }
         if matches!(self.mnemonic, Mnemonic::Inc | Mnemonic::Dec) {
             return self.more_than_one();
         }
-        let (left, right) = (self.form(0), self.form(1));
-        let is_a = left == Form::Name(Name::A);
-        if !takes(self.mnemonic, &[right]) {
+        let is_apart = takes(self.mnemonic, &[self.form(0)])
+            && takes(self.mnemonic, &[self.form(1)])
+            && !matches!(
+                self.mnemonic,
+                Mnemonic::Alu(_) | Mnemonic::Djnz | Mnemonic::Ret
+            );
+        if !is_apart {
             return Ok(None);
         }
-        let (l, r) = (self.operand_text(0)?, self.operand_text(1)?);
-        if is_a && matches!(self.mnemonic, Mnemonic::Alu(_)) {
-            return Ok(Some(format!(in alloc; "`{word} {r}` works on A")?));
+        match (self.form(0), self.form(1)) {
+            (Form::AtIndex(_) | Form::Displaced(_), Form::Name(_)) => self.copied(),
+            _ => self.each_alone(),
         }
-        if takes(self.mnemonic, &[left]) {
-            return Ok(Some(format!(in alloc;
-                "each has a line of its own: `{word} {l}` and `{word} {r}`"
-            )?));
+    }
+
+    /// Which registers a block instruction uses, if its operands name registers.
+    fn block_uses(&self) -> Result<Option<String>, AllocError> {
+        let Mnemonic::Block(operation, _) = self.mnemonic else {
+            return Ok(None);
+        };
+        for operand in self.operands {
+            if !matches!(form_written(operand), Form::Name(_) | Form::At(_)) {
+                return Ok(None);
+            }
         }
-        Ok(None)
+        let word = self.word;
+        let registers = match operation {
+            BlockOperation::Load => "HL, DE and BC",
+            BlockOperation::Compare => "A, HL and BC",
+            BlockOperation::Input | BlockOperation::Output => "B, C and HL",
+        };
+        Ok(Some(format!(in self.case.alloc; "`{word}` uses {registers} without naming them")?))
     }
 
     /// The message where there are more operands than the mnemonic takes.
@@ -117,38 +176,56 @@ impl<'c, 'a> Misfit<'c, 'a> {
         let text = format!(in alloc; "{word} takes {}", self.counts.text())?;
         let (at, count) = surplus(self.case, self.operands, self.counts.most());
         let draft = self.case.draft(at, count, text);
+        if let Some(help) = self.instead()? {
+            return draft.help(help);
+        }
         if let Some(help) = self.one_too_many()? {
             return draft.help(help);
         }
-        if let Some(help) = exchanged(alloc, self.mnemonic, self.form(0), self.form(1))? {
+        if let Some(better) = meant(self.case)? {
+            return draft.help(format!(in alloc; "did you mean `{better}`?")?);
+        }
+        if let Some(help) = self.block_uses()? {
             return draft.help(help);
         }
-        match meant(self.case)? {
-            Some(better) => draft.help(format!(in alloc; "did you mean `{better}`?")?),
-            None => draft.help(String::from_str(alloc, "a comment starts with `;`")?),
+        if is_remark(self.case, self.case.tokens_at(at, count))? {
+            return draft.help(String::from_str(alloc, "a comment starts with `;`")?);
         }
+        Ok(draft)
     }
 
-    /// The one operand that there is with A before or after it, if the mnemonic takes that.
+    /// A statement between backquotes, if it builds.
+    fn tried(&self, statement: String) -> Result<Option<String>, AllocError> {
+        if builds(self.case, statement.as_bytes())? {
+            return Ok(Some(format!(in self.case.alloc; "`{statement}`")?));
+        }
+        Ok(None)
+    }
+
+    /// The one operand that there is with A before or after it, or as a port, if the mnemonic takes that.
     fn with_a(&self) -> Result<Option<String>, AllocError> {
         let alloc = self.case.alloc;
         let word = self.word;
-        let only = self.form(0);
         let written = self.operand_text(0)?;
-        let a = Form::Name(Name::A);
-        if takes(self.mnemonic, &[a, only]) && self.mnemonic != Mnemonic::Ld {
-            return Ok(Some(format!(in alloc; "`{word} A,{written}`")?));
+        let (first, second) = match self.mnemonic {
+            Mnemonic::Ld => return Ok(None),
+            Mnemonic::In => (
+                format!(in alloc; "IN A,{written}")?,
+                format!(in alloc; "IN A,({written})")?,
+            ),
+            Mnemonic::Out => (
+                format!(in alloc; "OUT {written},A")?,
+                format!(in alloc; "OUT ({written}),A")?,
+            ),
+            _ => (
+                format!(in alloc; "{word} A,{written}")?,
+                format!(in alloc; "{word} {written},A")?,
+            ),
+        };
+        match self.tried(first)? {
+            Some(text) => Ok(Some(text)),
+            None => self.tried(second),
         }
-        if self.mnemonic == Mnemonic::In && takes(self.mnemonic, &[a, Form::AtNumber]) {
-            return Ok(Some(format!(in alloc; "`IN A,({written})`")?));
-        }
-        if self.mnemonic == Mnemonic::Out && only == Form::Number {
-            return Ok(Some(format!(in alloc; "`OUT ({written}),A`")?));
-        }
-        if takes(self.mnemonic, &[only, a]) && self.mnemonic != Mnemonic::Ld {
-            return Ok(Some(format!(in alloc; "`{word} {written},A`")?));
-        }
-        Ok(None)
     }
 
     /// The message where a condition is the only operand of a jump or a call.
@@ -157,10 +234,10 @@ impl<'c, 'a> Misfit<'c, 'a> {
         let word = self.word;
         let name = name_text(name);
         let text = format!(in alloc;
-            "`{name}` is a condition here: {word} {name} takes an address too"
+            "`{name}` is a condition here: {word} {name} needs an address after it"
         )?;
         self.on_operand(0, text).help(format!(in alloc;
-            "rename the label, if `{name}` is meant as one"
+            "if a label is meant, rename it: no label can have the name `{name}`"
         )?)
     }
 
@@ -195,10 +272,22 @@ impl<'c, 'a> Misfit<'c, 'a> {
             .case
             .on_word(text)
             .note(format!(in alloc; "its first operand is {list}")?)?;
+        if self.operands.is_empty() && !self.is_rotation() {
+            return Ok(draft);
+        }
         match meant(self.case)? {
             Some(better) => draft.help(format!(in alloc; "did you mean `{better}`?")?),
             None => Ok(draft),
         }
+    }
+
+    /// Whether the mnemonic rotates what its operand names, and one like it rotates A without one. Any other mnemonic that lacks its operands
+    /// is like words that do something else.
+    fn is_rotation(&self) -> bool {
+        matches!(
+            self.mnemonic,
+            Mnemonic::Rotate(Rotation::Rlc | Rotation::Rl | Rotation::Rrc | Rotation::Rr)
+        )
     }
 
     /// What to write instead of two operands that do not fit.
@@ -206,7 +295,7 @@ impl<'c, 'a> Misfit<'c, 'a> {
         let alloc = self.case.alloc;
         let word = self.word;
         let (left, right) = (self.form(0), self.form(1));
-        if let Some(help) = exchanged(alloc, self.mnemonic, left, right)? {
+        if let Some(help) = self.instead()? {
             return Ok(Some(help));
         }
         let (l, r) = (self.operand_text(0)?, self.operand_text(1)?);
@@ -215,22 +304,17 @@ impl<'c, 'a> Misfit<'c, 'a> {
             self.mnemonic,
             Mnemonic::Ld | Mnemonic::Alu(AluOperation::Sbc)
         );
-        if is_jump(self.mnemonic) && right == Form::AtNumber {
+        let takes_address = takes(self.mnemonic, &[left, Form::Number]);
+        if is_jump(self.mnemonic) && right == Form::AtNumber && takes_address {
             return Ok(Some(format!(in alloc;
                 "an address to go to has no parentheses: `{word} {l},LABEL`"
             )?));
         }
         if may_turn && takes(self.mnemonic, &[right, left]) {
-            return Ok(Some(format!(in alloc; "`{word} {r},{l}`")?));
+            return self.tried(format!(in alloc; "{word} {r},{l}")?);
         }
         if self.mnemonic == Mnemonic::Jr && takes(Mnemonic::Jp, &[left, right]) {
-            return Ok(Some(format!(in alloc; "`JP {l},{r}`")?));
-        }
-        if self.mnemonic == Mnemonic::In && right == Form::Number {
-            return Ok(Some(format!(in alloc; "a port is in parentheses: `IN {l},({r})`")?));
-        }
-        if self.mnemonic == Mnemonic::Out && left == Form::Number {
-            return Ok(Some(format!(in alloc; "a port is in parentheses: `OUT ({l}),{r}`")?));
+            return self.tried(format!(in alloc; "JP {l},{r}")?);
         }
         Ok(None)
     }
@@ -242,7 +326,11 @@ impl<'c, 'a> Misfit<'c, 'a> {
         let (l, r) = (self.operand_text(0)?, self.operand_text(1)?);
         let list = list_text(alloc, self.mnemonic, forms)?;
         let text = format!(in alloc; "{word} {l} takes {list}, not `{r}`")?;
-        self.on_operand(1, text).help_if(self.two_instead()?)
+        let draft = self.on_operand(1, text);
+        match replaced(self.case, &r)? {
+            Some(help) => draft.help(help),
+            None => draft.help_if(self.two_instead()?),
+        }
     }
 
     /// The message where the first operand does not fit.
@@ -260,11 +348,14 @@ impl<'c, 'a> Misfit<'c, 'a> {
         } else {
             format!(in alloc; "{word} takes {list}, not `{l}`")?
         };
-        let help = match count {
+        let draft = self.on_operand(0, text);
+        if let Some(help) = replaced(self.case, &l)? {
+            return draft.help(help);
+        }
+        draft.help_if(match count {
             1 => self.one_instead()?,
             _ => self.two_instead()?,
-        };
-        self.on_operand(0, text).help_if(help)
+        })
     }
 
     /// What to write instead of an operand to which no jump goes.
@@ -294,7 +385,7 @@ impl<'c, 'a> Misfit<'c, 'a> {
         let word = self.word;
         let written = self.operand_text(0)?;
         if written.as_str() == "PSW" || written.as_str() == "psw" {
-            return Ok(Some(format!(in alloc; "`{word} AF`")?));
+            return self.tried(format!(in alloc; "{word} AF")?);
         }
         if is_jump(self.mnemonic) {
             return self.jump_instead(0);
@@ -304,13 +395,13 @@ impl<'c, 'a> Misfit<'c, 'a> {
             Form::Name(Name::B | Name::C) => Name::Bc,
             Form::Name(Name::D | Name::E) => Name::De,
             Form::Name(Name::H | Name::L) => Name::Hl,
-            _ => return Ok(None),
+            _ => return self.instead(),
         };
         if takes(self.mnemonic, &[Form::Name(pair)]) {
             let pair = name_text(pair);
             return Ok(Some(format!(in alloc; "`{word} {pair}`")?));
         }
-        Ok(None)
+        self.instead()
     }
 
     /// The message about the operands.
@@ -320,7 +411,7 @@ impl<'c, 'a> Misfit<'c, 'a> {
             return self.too_many();
         }
         if !self.counts.has(count) {
-            return self.too_few();
+            return self.too_few()?.help_if(divided(self.case)?);
         }
         if count == 1 && !takes(self.mnemonic, &[self.form(0)]) && self.counts.two {
             let forms = seconds(self.case.alloc, self.mnemonic, self.form(0))?;
@@ -351,14 +442,25 @@ fn directive_text(word: &str) -> &'static str {
     }
 }
 
+/// The message about an EQU without a name before it. The name may be behind it.
+pub(crate) fn nameless_equ(case: &Case<'_>) -> Result<Draft, AllocError> {
+    let alloc = case.alloc;
+    let draft = case.on_word(String::from_str(alloc, "a name comes before EQU")?);
+    if let [name, value @ ..] = case.form.rest {
+        let (name, value) = (shown(alloc, name.text)?, joined(alloc, value)?);
+        let line = format!(in alloc; "{name} EQU {value}")?;
+        if builds(case, line.as_bytes())? {
+            return draft.help(format!(in alloc; "`{line}`")?);
+        }
+    }
+    draft.help(String::from_str(alloc, "`NAME EQU 5`")?)
+}
+
 /// The message about a directive whose operands do not fit.
 fn directive(case: &Case<'_>, word: &str) -> Result<Draft, AllocError> {
     let alloc = case.alloc;
     if word == "EQU" {
-        let text = String::from_str(alloc, "a name comes before EQU")?;
-        return case
-            .on_word(text)
-            .help(String::from_str(alloc, "`NAME EQU 5`")?);
+        return nameless_equ(case);
     }
     let text = format!(in alloc; "{word} takes {}", directive_text(word))?;
     let count = case.form.rest.len();

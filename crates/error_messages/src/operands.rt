@@ -78,6 +78,22 @@ pub(crate) fn left_open(tokens: &[Token<'_>]) -> (usize, usize) {
     (depth, outermost)
 }
 
+/// Whether tokens begin with a group in parentheses, after which comes a comma or nothing.
+pub(crate) fn is_whole_group(tokens: &[Token<'_>]) -> bool {
+    match tokens.first() {
+        Some(first) if matches!(first.kind, Kind::Mark(Mark::Open)) => (),
+        _ => return false,
+    }
+    for count in 1..tokens.len() {
+        let (open, _) = left_open(tokens.get(..count).unwrap_or(tokens));
+        if open == 0 {
+            return tokens.get(count).is_some_and(|next| is_comma(next));
+        }
+    }
+    let (open, _) = left_open(tokens);
+    open == 0
+}
+
 /// Whether tokens begin with a parenthesis that the last of them closes.
 fn is_memory(tokens: &[Token<'_>]) -> bool {
     let [first, .., last] = tokens else {

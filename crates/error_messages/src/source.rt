@@ -1,7 +1,9 @@
 //! A source, read once for the messages about all its errors.
 
+use crate::hidden::{HiddenLine, hidden_lines};
 use crate::lines::tokens_of;
-use asm_line::{Head, form_of};
+use crate::showing::shown;
+use asm_line::{BlockWord, Head, form_of, is_name};
 use asm_macro::source_part;
 use asm_text::Lines;
 use bstr::ByteSlice;
@@ -25,6 +27,10 @@ pub struct SourceLines<'a> {
     pub(crate) before: Before,
     /// The first line that defines each macro, by the macro's name in upper case.
     macros: IndexMap<Vec<u8>, u32, NameKey>,
+    /// The first line that defines a macro with this LOCAL name, in upper case.
+    pub(crate) locals: IndexMap<Vec<u8>, u32, NameKey>,
+    /// The first definition of each name that may not be assembled, by the name in upper case.
+    pub(crate) hidden: IndexMap<Vec<u8>, HiddenLine, NameKey>,
 }
 
 /// Whether a line may define a macro. Most lines need not be cut into tokens to tell that they do not.
@@ -44,6 +50,34 @@ fn macro_in(alloc: Global, line: &[u8]) -> Result<Option<Vec<u8>>, AllocError> {
     }
 }
 
+/// Whether a line may be a LOCAL.
+fn may_list(line: &[u8]) -> bool {
+    line.contains_str(b"OCAL") || line.contains_str(b"ocal")
+}
+
+/// Notes the names of a LOCAL line, given the line that defines the macro.
+fn put_locals(
+    alloc: Global,
+    locals: &mut IndexMap<Vec<u8>, u32, NameKey>,
+    line: &[u8],
+    definition: u32,
+) -> Result<(), AllocError> {
+    if !may_list(line) {
+        return Ok(());
+    }
+    let found = tokens_of(alloc, line)?;
+    let form = form_of(&found);
+    if let Head::Block(BlockWord::Local) = form.head {
+        for token in form.rest {
+            let upper = token.text.to_ascii_uppercase(alloc)?;
+            if is_name(token) && locals.get(upper.as_slice()).is_none() {
+                locals.insert(upper, definition)?;
+            }
+        }
+    }
+    Ok(())
+}
+
 impl<'a> SourceLines<'a> {
     /// Reads a source, which begins with the lines that come before those of the source itself.
     ///
@@ -57,20 +91,36 @@ impl<'a> SourceLines<'a> {
     ) -> Result<SourceLines<'a>, AllocError> {
         let lines = Lines::of(alloc, source_part(text))?;
         let mut macros = IndexMap::with_hasher(alloc, NameKey::of(text));
+        let mut locals = IndexMap::with_hasher(alloc, NameKey::of(text));
         let mut number = 0u32;
+        let mut definition = 0u32;
         for at in 0..lines.len() {
             number = number.saturating_add(1);
             if let Some(name) = macro_in(alloc, lines.line(at))? {
+                definition = number;
                 if macros.get(name.as_slice()).is_none() {
                     macros.insert(name, number)?;
                 }
             }
+            put_locals(alloc, &mut locals, lines.line(at), definition)?;
         }
+        let hidden = hidden_lines(alloc, &lines, NameKey::of(text))?;
         Ok(SourceLines {
             lines,
             before,
             macros,
+            locals,
+            hidden,
         })
+    }
+
+    /// The name of the macro that a line defines; an empty one if it defines none.
+    pub(crate) fn macro_at(&self, alloc: Global, number: u32) -> Result<String, AllocError> {
+        let found = tokens_of(alloc, self.line(number))?;
+        match form_of(&found).head {
+            Head::Macro(name) => shown(alloc, name),
+            _ => Ok(String::new(alloc)),
+        }
     }
 
     /// How many lines there are.

@@ -1,19 +1,24 @@
 //! Operands that are no expression.
 
+use crate::apart::not_apart;
 use crate::case::Case;
 use crate::draft::Draft;
-use crate::forms::Counts;
-use crate::operands::{Operand, expression_in, left_open, name_in, operands};
-use crate::reserved::reserved_text;
-use crate::scanning::hexadecimal;
-use crate::showing::shown;
+use crate::foreign_signs::{ONE_STATEMENT, are_statements};
+use crate::marks::{CLOSE, COMMA, PLUS};
+use crate::misfit::nameless_equ;
+use crate::operands::{Operand, expression_in, form_written, left_open, name_in, operands};
+use crate::registers::{current_address, index_first, operand_with, operator_here, register_here};
+use crate::scanning::{hexadecimal, without_letter};
+use crate::showing::{joined, shown};
+use crate::trial::{builds, mended};
 use crate::worth::is_expression;
-use asm_line::Head;
+use asm_line::{BlockWord, Head};
 use asm_scan::{Kind, Mark, Token};
 use asm_spell::{Body, Line, StmtFault, statement};
+use bstr::ByteSlice;
 use common::is_reserved;
-use std::alloc::AllocError;
-use z80_form::{Field, Name, mnemonic_of};
+use std::alloc::{AllocError, Global};
+use z80_form::{Field, Form, Name, mnemonic_of};
 
 /// Whether some tokens can begin an expression: whether they are one if their parentheses are closed, perhaps after one more number.
 fn can_begin(case: &Case<'_>, front: &[Token<'_>]) -> Result<bool, AllocError> {
@@ -58,32 +63,6 @@ fn begins_operand(token: &Token<'_>) -> bool {
     )
 }
 
-/// Whether the word of the line takes one operand more than it has.
-fn takes_more(case: &Case<'_>, count: usize) -> Result<bool, AllocError> {
-    let Head::Word(word) = case.form.head else {
-        return Ok(false);
-    };
-    match mnemonic_of(word) {
-        Some(mnemonic) => Ok(Counts::of(case.alloc, mnemonic)?.has(count.saturating_add(1))),
-        None => Ok(true),
-    }
-}
-
-/// The message about a word or number directly after a complete operand.
-fn not_apart(case: &Case<'_>, count: usize, at: usize) -> Result<Draft, AllocError> {
-    let alloc = case.alloc;
-    let token = case.joined(at, 1)?;
-    if takes_more(case, count)? {
-        let text = format!(in alloc; "expected a comma before `{token}`")?;
-        return case
-            .draft(at, 1, text)
-            .help(String::from_str(alloc, "a comment starts with `;`")?);
-    }
-    let text = format!(in alloc; "unexpected `{token}`")?;
-    case.draft(at, 1, text)
-        .help(String::from_str(alloc, "a comment starts with `;`")?)
-}
-
 /// How many characters a string has, given its text with the quotes.
 fn characters(text: &[u8]) -> usize {
     let quote = text.first().copied().unwrap_or(0);
@@ -109,7 +88,7 @@ fn has_byte(body: &Body) -> bool {
 }
 
 /// Whether the expression with this token is a byte of the statement, so that it has no room for two characters.
-fn is_byte(case: &Case<'_>, at: usize) -> Result<bool, AllocError> {
+pub(crate) fn is_byte(case: &Case<'_>, at: usize) -> Result<bool, AllocError> {
     let mut tokens = Vec::with_capacity(case.alloc, case.tokens.len())?;
     for (number, token) in case.tokens.iter().enumerate() {
         if number == at {
@@ -133,14 +112,71 @@ fn is_byte(case: &Case<'_>, at: usize) -> Result<bool, AllocError> {
     }
 }
 
+/// The characters that other languages write as a backslash and a letter, with their codes.
+const ESCAPES: [(&[u8], &str); 8] = [
+    (b"\\n", "10"),
+    (b"\\r", "13"),
+    (b"\\t", "9"),
+    (b"\\0", "0"),
+    (b"\\a", "7"),
+    (b"\\b", "8"),
+    (b"\\e", "27"),
+    (b"\\\\", "'\\'"),
+];
+
+/// What to write instead of a string that is a backslash and a letter; None if it is none.
+fn escaped(alloc: Global, text: &[u8]) -> Result<Option<String>, AllocError> {
+    let inside = text.get(1..text.len().saturating_sub(1)).unwrap_or(&[]);
+    for (escape, code) in &ESCAPES {
+        if *escape == inside {
+            return Ok(Some(format!(in alloc; "strings have no escapes: write `{code}`")?));
+        }
+    }
+    Ok(None)
+}
+
+/// The message about a word or a number after a string of a directive, which may be a quote in the string that is not doubled; None if there is
+/// no such word.
+fn after_string(case: &Case<'_>, at: usize, text: &[u8]) -> Result<Option<Draft>, AllocError> {
+    let alloc = case.alloc;
+    let is_instruction = match case.form.head {
+        Head::Word(word) => mnemonic_of(word).is_some(),
+        _ => true,
+    };
+    let next = at.saturating_add(1);
+    let [token] = case.tokens_at(next, 1) else {
+        return Ok(None);
+    };
+    if is_instruction || !begins_operand(token) || is_operator(case, token)? {
+        return Ok(None);
+    }
+    let mut both = Vec::from_slice(alloc, text)?;
+    both.extend_from_slice(token.text)?;
+    if !case.finding.text.as_slice().contains_str(both.as_slice()) {
+        return Ok(Some(not_apart(case, operands(case)?.len(), next)?));
+    }
+    let written = shown(alloc, token.text)?;
+    let quote = shown(alloc, text.get(..1).unwrap_or(&[]))?;
+    let draft = case.draft(next, 1, format!(in alloc; "unexpected `{written}`")?);
+    Ok(Some(draft.help(format!(in alloc;
+        "a quote in a string is written twice: `{quote}it{quote}{quote}s{quote}`"
+    )?)?))
+}
+
 /// The message about a string in an expression that has not one character.
 fn long_string(case: &Case<'_>, at: usize, text: &[u8]) -> Result<Draft, AllocError> {
     let alloc = case.alloc;
+    if let Some(draft) = after_string(case, at, text)? {
+        return Ok(draft);
+    }
     let written = shown(alloc, text)?;
     let count = characters(text);
     let text = format!(in alloc;
         "a string in an expression has one character, and `{written}` has {count}"
     )?;
+    if let Some(help) = escaped(alloc, written.as_bytes())? {
+        return case.draft(at, 1, text).help(help);
+    }
     let help = if is_byte(case, at)? {
         "a byte holds one character, as `'A'`; a string of any length is an item of DB by itself"
     } else {
@@ -166,51 +202,131 @@ fn has_displacement(case: &Case<'_>, at: usize) -> bool {
         && matches!(after.kind, Kind::Mark(Mark::Plus | Mark::Minus))
 }
 
+/// Whether a slash comes directly before a token, so that both begin a comment of another language.
+fn is_after_slash(case: &Case<'_>, at: usize) -> bool {
+    match case.tokens.get(at.wrapping_sub(1)) {
+        Some(before) => before.kind == Kind::Mark(Mark::Slash),
+        None => false,
+    }
+}
+
+/// The number of the parenthesis that closes the one with this number.
+fn closer(case: &Case<'_>, open: usize) -> Option<usize> {
+    for count in 1..case.tokens.len() {
+        let own = case.tokens_at(open, count.saturating_add(1));
+        let (depth, _) = left_open(own);
+        if depth == 0 && own.len() > count {
+            return Some(open.saturating_add(count));
+        }
+    }
+    None
+}
+
+/// What to write instead of `(SP+2)`, given the numbers of SP and of the parenthesis that closes; None if no number is there.
+fn stack_help(case: &Case<'_>, at: usize, close: usize) -> Result<Option<String>, AllocError> {
+    let alloc = case.alloc;
+    let from = at.saturating_add(2);
+    let distance = case.tokens_at(from, close.saturating_sub(from));
+    let text = joined(alloc, distance)?;
+    let is_less = case
+        .tokens_at(at.saturating_add(1), 1)
+        .iter()
+        .any(|sign| sign.kind == Kind::Mark(Mark::Minus));
+    let number = match (is_less, distance) {
+        (false, _) => text,
+        (true, [_]) => format!(in alloc; "-{text}")?,
+        (true, _) => format!(in alloc; "-({text})")?,
+    };
+    let load = format!(in alloc; "LD HL,{number}")?;
+    if builds(case, load.as_bytes())? {
+        return Ok(Some(format!(in alloc; "`{load}` and `ADD HL,SP`, then use (HL)")?));
+    }
+    Ok(None)
+}
+
+/// What to write instead of a register pair with a displacement.
+fn pair_help(case: &Case<'_>, at: usize, token: &Token<'_>) -> Result<Option<String>, AllocError> {
+    let alloc = case.alloc;
+    let Some(close) = closer(case, at.saturating_sub(1)) else {
+        return Ok(None);
+    };
+    if name_in(token) == Some(Name::Sp) {
+        return stack_help(case, at, close);
+    }
+    let from = at.saturating_add(1);
+    if mended(case, from, close.saturating_sub(from), &[])?.is_none() {
+        return Ok(None);
+    }
+    let pair = shown(alloc, &token.text.to_ascii_uppercase(alloc)?)?;
+    Ok(Some(format!(in alloc; "change {pair} before, or use IX or IY")?))
+}
+
+/// The message about a register pair with a displacement.
+fn displaced_pair(case: &Case<'_>, at: usize, token: &Token<'_>) -> Result<Draft, AllocError> {
+    let alloc = case.alloc;
+    let written = shown(alloc, token.text)?;
+    let text = format!(in alloc;
+        "`{written}` takes no displacement: only (IX+d) and (IY+d) have one"
+    )?;
+    case.draft(at, 1, text).help_if(pair_help(case, at, token)?)
+}
+
+/// What to write instead of a sign that no expression has there.
+fn mark_help(case: &Case<'_>, at: usize, token: &Token<'_>) -> Result<Option<String>, AllocError> {
+    match token.kind {
+        Kind::Mark(Mark::Star) => current_address(case, at),
+        Kind::Mark(Mark::Open) => match operand_with(case, at)? {
+            Some(operand) => index_first(case, &operand),
+            None => Ok(None),
+        },
+        _ => Ok(None),
+    }
+}
+
+/// The message about a colon among the operands; None if there is none.
+fn with_colon(case: &Case<'_>) -> Result<Option<Draft>, AllocError> {
+    let alloc = case.alloc;
+    let colon = Kind::Mark(Mark::Colon);
+    let Some(number) = case.form.rest.iter().position(|token| token.kind == colon) else {
+        return Ok(None);
+    };
+    let at = case.rest_at().saturating_add(number);
+    let next = at.saturating_add(1);
+    let behind = case.tokens_at(next, case.tokens.len());
+    if !behind.is_empty() && !are_statements(alloc, behind)? {
+        if let Some(line) = mended(case, at, 1, &[COMMA])? {
+            let token = case.joined(next, 1)?;
+            let text = format!(in alloc; "expected a comma before `{token}`")?;
+            return Ok(Some(case.draft(next, 1, text).help(line)?));
+        }
+    }
+    let help = if behind.is_empty() {
+        "leave out the colon"
+    } else {
+        ONE_STATEMENT
+    };
+    let draft = case.draft(at, 1, String::from_str(alloc, "unexpected `:`")?);
+    Ok(Some(draft.help(String::from_str(alloc, help)?)?))
+}
+
 /// The message about a token that no expression can have there.
 fn foreign(case: &Case<'_>, at: usize, token: &Token<'_>) -> Result<Draft, AllocError> {
     let alloc = case.alloc;
     let written = shown(alloc, token.text)?;
     let upper = token.text.to_ascii_uppercase(alloc)?;
-    let upper_text = shown(alloc, &upper)?;
     match token.kind {
         Kind::Quoted => long_string(case, at, token.text),
-        Kind::Mark(Mark::Slash | Mark::Star) => {
+        Kind::Mark(Mark::Slash | Mark::Star) if is_after_slash(case, at) => {
             let text = format!(in alloc; "unexpected `{written}`")?;
             case.draft(at, 1, text)
                 .help(String::from_str(alloc, "a comment starts with `;`")?)
         }
-        Kind::Mark(Mark::Colon) => {
-            let text = String::from_str(alloc, "unexpected `:`")?;
-            case.draft(at, 1, text).help(String::from_str(
-                alloc,
-                "a line has one statement, and the next one is on a line of its own",
-            )?)
-        }
-        _ if has_displacement(case, at) => {
-            let text = format!(in alloc;
-                "`{written}` takes no displacement: only (IX+d) and (IY+d) have one"
-            )?;
-            case.draft(at, 1, text).help(format!(in alloc;
-                "change {upper_text} before, or use IX or IY"
-            )?)
-        }
-        _ if name_in(token).is_some() => {
-            let what = reserved_text(&upper);
-            let text = format!(in alloc; "`{written}` is {what}, which no expression has")?;
-            case.draft(at, 1, text).help(String::from_str(
-                alloc,
-                "rename the label, if one is meant",
-            )?)
-        }
-        Kind::Name if is_reserved(&upper) => {
-            let text = format!(in alloc; "`{written}` is an operator, which cannot be here")?;
-            case.draft(at, 1, text).help(format!(in alloc;
-                "it needs an operand on each side; NOT, HIGH and LOW in an expression are in parentheses"
-            )?)
-        }
+        _ if has_displacement(case, at) => displaced_pair(case, at, token),
+        _ if name_in(token).is_some() => register_here(case, at, token),
+        Kind::Name if is_reserved(&upper) => operator_here(case, at, token),
         _ => {
             let text = format!(in alloc; "unexpected `{written}`")?;
-            Ok(case.draft(at, 1, text))
+            case.draft(at, 1, text).help_if(mark_help(case, at, token)?)
         }
     }
 }
@@ -226,7 +342,7 @@ fn after_dollar(
     if before.kind != Kind::Mark(Mark::Dollar) {
         return Ok(None);
     }
-    let Some(number) = hexadecimal(alloc, token.text)? else {
+    let Some(number) = hexadecimal(alloc, without_letter(token.text, b'h'))? else {
         return Ok(None);
     };
     let written = shown(alloc, token.text)?;
@@ -296,6 +412,18 @@ fn incomplete(case: &Case<'_>, part: &Operand<'_>) -> Result<Draft, AllocError> 
     Ok(case.draft(at, 1, text))
 }
 
+/// The line with the parenthesis that closes this one, as far behind it as the line then builds.
+fn closed(case: &Case<'_>, open: usize) -> Result<Option<String>, AllocError> {
+    let behind = case.tokens.len().saturating_sub(open);
+    for back in 0..behind {
+        let at = case.tokens.len().saturating_sub(back);
+        if let Some(line) = mended(case, at, 0, &[CLOSE])? {
+            return Ok(Some(line));
+        }
+    }
+    Ok(None)
+}
+
 /// The number of the first parenthesis that closes none.
 fn unopened(tokens: &[Token<'_>]) -> Option<usize> {
     for (at, token) in tokens.iter().enumerate() {
@@ -318,7 +446,8 @@ fn told(case: &Case<'_>, count: usize, part: &Operand<'_>) -> Result<Option<Draf
     let (open, outermost) = left_open(part.tokens);
     if open > 0 {
         let text = String::from_str(alloc, "this parenthesis is not closed")?;
-        return Ok(Some(case.draft(part.at.saturating_add(outermost), 1, text)));
+        let at = part.at.saturating_add(outermost);
+        return Ok(Some(case.draft(at, 1, text).help_if(closed(case, at)?)?));
     }
     if let Some(number) = unopened(part.tokens) {
         let text = String::from_str(alloc, "this parenthesis closes none")?;
@@ -369,12 +498,64 @@ fn first_told(case: &Case<'_>, texts: bool) -> Result<Option<Draft>, AllocError>
     Ok(None)
 }
 
+/// The message about a second expression in a line that takes one; None if the line is none, or has one.
+fn second_expression(case: &Case<'_>) -> Result<Option<Draft>, AllocError> {
+    let alloc = case.alloc;
+    let takes_one = matches!(
+        case.form.head,
+        Head::Equ(_) | Head::Block(BlockWord::If | BlockWord::Rept)
+    );
+    let found = operands(case)?;
+    match found.get(1) {
+        Some(second) if takes_one => {
+            let word = shown(alloc, &case.word().to_ascii_uppercase(alloc)?)?;
+            let text = format!(in alloc; "unexpected `,`: {word} takes one expression")?;
+            Ok(Some(case.draft(second.at.saturating_sub(1), 1, text)))
+        }
+        _ => Ok(None),
+    }
+}
+
+/// The message about a displacement without its sign, as in `(IX 5)`; None if there is none.
+fn without_sign(case: &Case<'_>) -> Result<Option<Draft>, AllocError> {
+    let alloc = case.alloc;
+    for operand in &operands(case)? {
+        let distance = operand.inner().part(1, 1);
+        let begins = distance.tokens.iter().any(|token| begins_operand(token));
+        if begins && matches!(form_written(operand), Form::Displaced(_)) {
+            if let Some(line) = mended(case, distance.at, 0, &[PLUS])? {
+                let token = joined(alloc, distance.tokens)?;
+                let text = format!(in alloc; "expected `+` or `-` before `{token}`")?;
+                let draft = case.draft(distance.at, 1, text);
+                return Ok(Some(draft.help(format!(in alloc;
+                    "a displacement has a sign: {line}"
+                )?)?));
+            }
+        }
+    }
+    Ok(None)
+}
+
 /// The message about a line with an operand that is no expression.
 pub(crate) fn no_expression(case: &Case<'_>) -> Result<Draft, AllocError> {
+    if let Some(draft) = with_colon(case)? {
+        return Ok(draft);
+    }
+    if let Head::Word(word) = case.form.head {
+        if word.eq_ignore_ascii_case(b"EQU") {
+            return nameless_equ(case);
+        }
+    }
     if let Some(draft) = first_told(case, false)? {
         return Ok(draft);
     }
     if let Some(draft) = first_told(case, true)? {
+        return Ok(draft);
+    }
+    if let Some(draft) = second_expression(case)? {
+        return Ok(draft);
+    }
+    if let Some(draft) = without_sign(case)? {
         return Ok(draft);
     }
     let text = String::from_str(case.alloc, "expected an expression")?;

@@ -66,7 +66,7 @@ fn on_statement(case: &Case<'_>, why: StmtFault) -> Result<Draft, AllocError> {
         StmtFault::UnknownWord => crate::words::unknown(case),
         StmtFault::BadOperands => crate::misfit::wrong_operands(case),
         StmtFault::ByteRange => values::out_of_range(case),
-        StmtFault::NeedsLowOrHigh => values::needs_low_or_high(case),
+        StmtFault::NeedsLowOrHigh => crate::bytes::needs_low_or_high(case),
         StmtFault::ShortNeedsLabel => values::short_needs_label(case),
         StmtFault::SizeNamesLabel => values::size_varies(case),
         StmtFault::BadOrg => values::bad_origin(case),
@@ -81,8 +81,8 @@ fn on_statement(case: &Case<'_>, why: StmtFault) -> Result<Draft, AllocError> {
 fn on_expression(case: &Case<'_>, why: ExprFault) -> Result<Draft, AllocError> {
     match why {
         ExprFault::Syntax => crate::syntax::no_expression(case),
-        ExprFault::DivideByZero => values::divides_by_zero(case),
-        ExprFault::LabelDivisor => values::divisor_varies(case),
+        ExprFault::DivideByZero => crate::dividing::divides_by_zero(case),
+        ExprFault::LabelDivisor => crate::dividing::divisor_varies(case),
         ExprFault::TooDeep => values::too_deep(case),
         ExprFault::TooLarge => values::too_large(case),
         ExprFault::NoMemory => Err(AllocError),
@@ -97,11 +97,9 @@ fn on_expansion(case: &Case<'_>, why: MacroFault) -> Result<Draft, AllocError> {
         MacroFault::TooDeep => blocks::too_deep(case),
         MacroFault::TooManyLines => blocks::too_many_lines(case),
         MacroFault::Redefined => blocks::redefined(case),
-        MacroFault::ConditionNamesLabel => blocks::condition_names_label(case),
+        MacroFault::ConditionNamesLabel => crate::conditions::condition_names_label(case),
         MacroFault::LineTooLong => scanning::too_long(case.alloc, &case.finding.text),
-        MacroFault::Scan(fault) => {
-            scanning::unscanned(case.alloc, &case.finding.text, case.finding.number, fault)
-        }
+        MacroFault::Scan(fault) => scanning::unscanned(case, fault),
         MacroFault::Expr(fault) => on_expression(case, fault),
         MacroFault::NoMemory => Err(AllocError),
     }
@@ -113,9 +111,9 @@ fn drafted(case: &Case<'_>) -> Result<Draft, AllocError> {
         Why::Macro(why) => on_expansion(case, why),
         Why::Stmt(why) => on_statement(case, why),
         Why::Duplicate => names::duplicate(case),
-        Why::Undefined => names::undefined(case),
+        Why::Undefined => crate::undefined::undefined(case),
         Why::PublicNotLabel => names::no_label(case),
-        Why::EquCircle => names::circle(case),
+        Why::EquCircle => crate::circles::circle(case),
         Why::TooManyStatements => names::too_many_statements(case),
         Why::TooManyNames => names::too_many_names(case),
         Why::NoMemory => Err(AllocError),
@@ -138,6 +136,26 @@ fn drafted_by<'c>(
         tokens,
         form: form_of(tokens),
     })
+}
+
+/// The message about an error of a line that cannot be cut into tokens, given none.
+fn drafted_uncut<'c>(
+    alloc: Global,
+    source: &'c SourceLines<'c>,
+    finding: &'c Finding,
+    known: Option<&'c Known>,
+    tokens: &'c [Token<'c>],
+    fault: ScanFault,
+) -> Result<Draft, AllocError> {
+    let case = Case {
+        alloc,
+        source,
+        finding,
+        known,
+        tokens,
+        form: form_of(tokens),
+    };
+    scanning::unscanned(&case, fault)
 }
 
 /// Answers the message about an error: where in its line it is, what it means, and what to write instead. Notes name the lines of the source
@@ -166,7 +184,7 @@ pub fn message(
         }
         Err(ScanFault::NoMemory) => Err(AllocError),
         Err(fault) => {
-            let draft = scanning::unscanned(alloc, line, finding.number, fault)?;
+            let draft = drafted_uncut(alloc, source, finding, known, &[], fault)?;
             finished(alloc, line, &[], &draft)
         }
     }

@@ -1,22 +1,25 @@
 //! Values that do not fit.
 
+use crate::bytes::as_operand;
 use crate::case::Case;
 use crate::draft::Draft;
-use crate::forms::name_text;
-use crate::operands::{Operand, expression_in, form_written, left_open, operands};
+use crate::marks::{CLOSE, OPEN, PLUS};
+use crate::operands::{Operand, expression_in, form_written, operands};
+use crate::shape::has_name;
 use crate::showing::{joined, shown};
-use crate::worth::{Worth, judge, worth_of};
-use asm_expr::{Offset, is_defined, offset_from_here};
-use asm_line::{Head, is_name, is_word};
-use asm_parse::{ExprFault, Tree};
+use crate::trial::{builds, mended};
+use crate::worth::{Worth, distance_of, judge, worth_of};
+use asm_line::{Head, is_name};
+use asm_parse::Tree;
 use asm_scan::{Kind, Mark, Token};
 use asm_spell::{Body, Line, StmtFault, Value, statement};
 use common::is_reserved;
 use std::alloc::{AllocError, Global};
 use z80_form::{Field, Form, Mnemonic, Name, mnemonic_of};
 
-/// The bytes of `JR` and `DJNZ`, from whose end their distance counts.
-const SHORT_JUMP: u16 = 2;
+/// What to write where a value must be the same wherever the program is.
+pub(crate) const FIXED: &str =
+    "write a number, or an EQU that is made from numbers; the difference of two labels will do if no JP between them may become JR";
 
 /// A number that its field does not allow, the number of its expression in the line, and the field.
 #[derive(Clone, Copy)]
@@ -33,21 +36,6 @@ fn value_of(case: &Case<'_>, field: Field, tree: &Tree) -> Result<Option<u16>, A
     }
     match worth_of(case, tree)? {
         Worth::Number(value) => Ok(Some(value)),
-        _ => Ok(None),
-    }
-}
-
-/// The distance of a jump to `$+n`, from the end of the jump; None if it is not known.
-fn distance_of(case: &Case<'_>, tree: &Tree) -> Result<Option<u16>, AllocError> {
-    let Some(known) = case.known else {
-        return Ok(None);
-    };
-    if !is_defined(tree, &known.values) {
-        return Ok(None);
-    }
-    match offset_from_here(case.alloc, tree, &known.values) {
-        Ok(Offset::Number(n)) => Ok(Some(n.wrapping_sub(SHORT_JUMP))),
-        Err(ExprFault::NoMemory) => Err(AllocError),
         _ => Ok(None),
     }
 }
@@ -122,7 +110,7 @@ fn first_misfit(case: &Case<'_>) -> Result<Option<Misfit>, AllocError> {
 }
 
 /// The expressions of the line, in order.
-fn expressions<'a>(case: &Case<'a>) -> Result<Vec<Operand<'a>>, AllocError> {
+pub(crate) fn expressions<'a>(case: &Case<'a>) -> Result<Vec<Operand<'a>>, AllocError> {
     let is_code = match case.form.head {
         Head::Word(word) => mnemonic_of(word).is_some(),
         _ => false,
@@ -168,19 +156,136 @@ fn range_text(case: &Case<'_>, misfit: Misfit) -> Result<String, AllocError> {
     }
 }
 
-/// What to write instead of a value that its field does not allow.
-fn range_help(case: &Case<'_>, misfit: Misfit) -> Result<Option<String>, AllocError> {
+/// The pair that a register is a half of, or that is loaded in place of A.
+fn wider(name: Name) -> Option<&'static str> {
+    match name {
+        Name::A | Name::H | Name::L => Some("HL"),
+        Name::B | Name::C => Some("BC"),
+        Name::D | Name::E => Some("DE"),
+        _ => None,
+    }
+}
+
+/// What to write instead of a number that no byte holds, if it is written without names.
+fn literal_help(case: &Case<'_>, written: &str) -> Result<Option<String>, AllocError> {
+    let alloc = case.alloc;
+    let Head::Word(word) = case.form.head else {
+        return Ok(None);
+    };
+    let found = operands(case)?;
+    if let (Some(Mnemonic::Ld), [to, _]) = (mnemonic_of(word), found.as_slice()) {
+        if let Form::Name(name) = form_written(to) {
+            return Ok(match wider(name) {
+                Some(pair) => Some(format!(in alloc;
+                    "a pair holds a word: `LD {pair},{written}`"
+                )?),
+                None => None,
+            });
+        }
+    }
+    if mnemonic_of(word).is_none() && found.len() == 1 {
+        return Ok(Some(format!(in alloc; "`DW {written}` has both bytes")?));
+    }
+    Ok(None)
+}
+
+/// What to write instead of a number that no byte holds.
+fn byte_help(case: &Case<'_>, part: &Operand<'_>) -> Result<Option<String>, AllocError> {
+    let alloc = case.alloc;
+    let written = joined(alloc, part.tokens)?;
+    if !has_name(alloc, part)? {
+        return literal_help(case, &written);
+    }
+    let operand = as_operand(alloc, part)?;
+    Ok(Some(format!(in alloc; "`LOW {operand}` or `HIGH {operand}` is a byte of it")?))
+}
+
+/// The operands of the line with 0 in place of the displacement of one, given the number of its first token, and whether DE is another.
+fn without_displacement(
+    alloc: Global,
+    found: &[Operand<'_>],
+    part: &Operand<'_>,
+) -> Result<(String, bool), AllocError> {
+    let mut text = String::new(alloc);
+    let mut is_de_used = false;
+    for (number, operand) in found.iter().enumerate() {
+        if number > 0 {
+            text.push_str(",")?;
+        }
+        let end = operand.at.saturating_add(operand.tokens.len());
+        if part.at > operand.at && part.at < end {
+            let index = joined(alloc, operand.inner().part(0, 1).tokens)?;
+            text.push_str(&format!(in alloc; "({index}+0)")?)?;
+        } else {
+            is_de_used = is_de_used
+                || matches!(form_written(operand), Form::Name(Name::D | Name::E));
+            text.push_str(&joined(alloc, operand.tokens)?)?;
+        }
+    }
+    Ok((text, is_de_used))
+}
+
+/// What to write instead of a displacement that is too far.
+fn displacement_help(
+    case: &Case<'_>,
+    part: &Operand<'_>,
+    value: u16,
+) -> Result<Option<String>, AllocError> {
+    let alloc = case.alloc;
+    let found = operands(case)?;
+    let (text, is_de_used) = without_displacement(alloc, &found, part)?;
+    let index = case.joined(part.at.saturating_sub(1), 1)?;
+    let pair = if is_de_used { "BC" } else { "DE" };
+    let number = match value {
+        0..=0x7FFF => format!(in alloc; "{value}")?,
+        _ => format!(in alloc; "-{}", 65_536 - u32::from(value))?,
+    };
+    let word = shown(alloc, &case.word().to_ascii_uppercase(alloc)?)?;
+    let last = format!(in alloc; "{word} {text}")?;
+    if !builds(case, last.as_bytes())? {
+        return Ok(None);
+    }
+    let help = format!(in alloc; "`LD {pair},{number}`, `ADD {index},{pair}` and `{last}`")?;
+    if value >= 256 {
+        return Ok(Some(help));
+    }
+    let back = 256 - u32::from(value);
+    Ok(Some(format!(in alloc; "{help}; or `({index}-{back})`, if that is meant")?))
+}
+
+/// Whether the line is a DJNZ, which has no long form.
+fn is_djnz(case: &Case<'_>) -> bool {
+    match case.form.head {
+        Head::Word(word) => mnemonic_of(word) == Some(Mnemonic::Djnz),
+        _ => false,
+    }
+}
+
+/// What to write instead of a jump to `$+n` that is too far. JP has one byte more than JR, so that `$+n` would lead somewhere else.
+fn far_help(case: &Case<'_>) -> &'static str {
+    if is_djnz(case) {
+        "write `DEC B` and `JP NZ,..` to a label; unlike DJNZ, DEC changes flags"
+    } else {
+        "put a label where it goes, and write JP to that"
+    }
+}
+
+/// What to write instead of a value that its field does not allow, given its expression.
+fn range_help(
+    case: &Case<'_>,
+    misfit: Misfit,
+    part: Option<&Operand<'_>>,
+) -> Result<Option<String>, AllocError> {
     let alloc = case.alloc;
     let value = misfit.value;
-    match misfit.field {
-        Field::Restart if value < 8 => {
+    match (misfit.field, part) {
+        (Field::Restart, _) if value < 8 => {
             let address = u32::from(value) * 8;
             Ok(Some(format!(in alloc; "`RST {address:02X}H` is restart number {value}")?))
         }
-        Field::Byte => Ok(Some(format!(in alloc;
-            "`LOW ({value})` or `HIGH ({value})` is a byte of it"
-        )?)),
-        Field::Distance => Ok(Some(String::from_str(alloc, "write JP")?)),
+        (Field::Byte, Some(part)) => byte_help(case, part),
+        (Field::Displacement, Some(part)) => displacement_help(case, part, value),
+        (Field::Distance, _) => Ok(Some(String::from_str(alloc, far_help(case))?)),
         _ => Ok(None),
     }
 }
@@ -193,8 +298,8 @@ pub(crate) fn out_of_range(case: &Case<'_>) -> Result<Draft, AllocError> {
         return Ok(case.draft(case.rest_at(), case.form.rest.len(), text));
     };
     let text = range_text(case, misfit)?;
-    let help = range_help(case, misfit)?;
     let found = expressions(case)?;
+    let help = range_help(case, misfit, found.get(misfit.number))?;
     let draft = match found.get(misfit.number) {
         Some(part) => case.draft(part.at, part.tokens.len(), text),
         None => case.on_word(text),
@@ -203,7 +308,7 @@ pub(crate) fn out_of_range(case: &Case<'_>) -> Result<Draft, AllocError> {
 }
 
 /// The first expression of the line that depends on addresses; the last one if none is known to.
-fn first_address<'a>(case: &Case<'a>) -> Result<Option<Operand<'a>>, AllocError> {
+pub(crate) fn first_address<'a>(case: &Case<'a>) -> Result<Option<Operand<'a>>, AllocError> {
     let found = expressions(case)?;
     for part in &found {
         if judge(case, part.tokens)? == Worth::Address {
@@ -214,7 +319,7 @@ fn first_address<'a>(case: &Case<'a>) -> Result<Option<Operand<'a>>, AllocError>
 }
 
 /// A message about an expression of the line; about the word if there is none.
-fn on_part(case: &Case<'_>, part: Option<Operand<'_>>, text: String) -> Draft {
+pub(crate) fn on_part(case: &Case<'_>, part: Option<Operand<'_>>, text: String) -> Draft {
     match part {
         Some(part) => case.draft(part.at, part.tokens.len(), text),
         None => case.on_word(text),
@@ -222,91 +327,11 @@ fn on_part(case: &Case<'_>, part: Option<Operand<'_>>, text: String) -> Draft {
 }
 
 /// An expression as it is written.
-fn part_text(case: &Case<'_>, part: Option<Operand<'_>>) -> Result<String, AllocError> {
+pub(crate) fn part_text(case: &Case<'_>, part: Option<Operand<'_>>) -> Result<String, AllocError> {
     match part {
         Some(part) => joined(case.alloc, part.tokens),
         None => Ok(String::new(case.alloc)),
     }
-}
-
-/// The expression behind LOW and HIGH, which bind tighter than other operators.
-fn as_operand(case: &Case<'_>, part: Option<Operand<'_>>) -> Result<String, AllocError> {
-    let alloc = case.alloc;
-    let written = part_text(case, part)?;
-    match part {
-        Some(Operand { tokens: [_], .. }) => Ok(written),
-        _ => format!(in alloc; "({written})"),
-    }
-}
-
-/// What to write if the byte at an address is meant, given the mnemonic, what comes before its last operand, and the address.
-fn byte_there(
-    alloc: Global,
-    mnemonic: Mnemonic,
-    before: &[Operand<'_>],
-    address: &str,
-) -> Result<Option<String>, AllocError> {
-    match (mnemonic, before) {
-        (Mnemonic::Ld, [to]) => match form_written(to) {
-            Form::Name(Name::A) => Ok(Some(format!(in alloc;
-                "`LD A,({address})` loads the byte that is there"
-            )?)),
-            Form::Name(name) => {
-                let to = name_text(name);
-                Ok(Some(format!(in alloc;
-                    "`LD A,({address})` and `LD {to},A` load the byte that is there"
-                )?))
-            }
-            _ => Ok(None),
-        },
-        (Mnemonic::Alu(_), _) => Ok(Some(format!(in alloc;
-            "after `LD HL,{address}` the byte that is there is `(HL)`"
-        )?)),
-        _ => Ok(None),
-    }
-}
-
-/// What to write if the byte at an address is meant, or both bytes of the address; None if the line tells neither.
-fn instead_of_byte(
-    case: &Case<'_>,
-    part: Option<Operand<'_>>,
-    address: &str,
-) -> Result<Option<String>, AllocError> {
-    let alloc = case.alloc;
-    let Head::Word(word) = case.form.head else {
-        return Ok(None);
-    };
-    let found = operands(case)?;
-    let [before @ .., last] = found.as_slice() else {
-        return Ok(None);
-    };
-    match (mnemonic_of(word), part) {
-        (Some(mnemonic), Some(part)) if part.at == last.at => {
-            byte_there(alloc, mnemonic, before, address)
-        }
-        (None, _) if word.eq_ignore_ascii_case(b"DB") || word.eq_ignore_ascii_case(b"DEFB") => {
-            Ok(Some(format!(in alloc; "`DW {address}` has both bytes")?))
-        }
-        _ => Ok(None),
-    }
-}
-
-/// The message about a byte that is an address.
-pub(crate) fn needs_low_or_high(case: &Case<'_>) -> Result<Draft, AllocError> {
-    let alloc = case.alloc;
-    let part = first_address(case)?;
-    let written = part_text(case, part)?;
-    let operand = as_operand(case, part)?;
-    let text = format!(in alloc;
-        "an address does not fit in a byte: `{written}` depends on addresses"
-    )?;
-    on_part(case, part, text)
-        .help(format!(in alloc; "`LOW {operand}` or `HIGH {operand}` is a byte of it")?)?
-        .help_if(instead_of_byte(case, part, &written)?)?
-        .note(String::from_str(
-            alloc,
-            "a distance is a number only as `Y-X`, with no jump between them that may become shorter",
-        )?)
 }
 
 /// The message about a short jump whose target is no label.
@@ -318,10 +343,59 @@ pub(crate) fn short_needs_label(case: &Case<'_>) -> Result<Draft, AllocError> {
     let text = format!(in alloc;
         "{word} takes a label, an external, or `$` and a number, not `{written}`"
     )?;
-    on_part(case, part, text).help(String::from_str(
+    let draft = on_part(case, part, text);
+    let Some(part) = part else {
+        return Ok(draft);
+    };
+    if let Some(better) = grouped(case, &part)? {
+        return draft.help(format!(in alloc; "write {better}, or put a label where it goes")?);
+    }
+    let counts_from_here = part
+        .tokens
+        .iter()
+        .any(|t| t.kind == Kind::Mark(Mark::Dollar));
+    draft.help(String::from_str(
         alloc,
-        "put a label where it goes, or write JP",
+        if is_djnz(case) || counts_from_here {
+            "put a label where it goes"
+        } else {
+            "put a label where it goes, or write JP"
+        },
     )?)
+}
+
+/// Whether tokens have an operator that is a word, and that binds less tightly than a sum.
+fn has_operator(alloc: Global, tokens: &[Token<'_>]) -> Result<bool, AllocError> {
+    for token in tokens {
+        if token.kind == Kind::Name && is_reserved(&token.text.to_ascii_uppercase(alloc)?) {
+            return Ok(true);
+        }
+    }
+    Ok(false)
+}
+
+/// A target such as `$+2+1` as `$` and one number, between backquotes, if the line builds so: `$+(2+1)`.
+fn grouped(case: &Case<'_>, part: &Operand<'_>) -> Result<Option<String>, AllocError> {
+    let alloc = case.alloc;
+    let [here, sign, rest @ ..] = part.tokens else {
+        return Ok(None);
+    };
+    let is_sum = here.kind == Kind::Mark(Mark::Dollar)
+        && matches!(sign.kind, Kind::Mark(Mark::Plus | Mark::Minus));
+    if !is_sum || rest.is_empty() || has_operator(alloc, rest)? {
+        return Ok(None);
+    }
+    let mut tokens = Vec::from_slice(alloc, &[*here, PLUS, OPEN])?;
+    if sign.kind == Kind::Mark(Mark::Minus) {
+        tokens.push(*sign)?;
+    }
+    tokens.extend_from_slice(rest)?;
+    tokens.push(CLOSE)?;
+    if mended(case, part.at, part.tokens.len(), &tokens)?.is_none() {
+        return Ok(None);
+    }
+    let text = joined(alloc, &tokens)?;
+    Ok(Some(format!(in alloc; "`{text}`")?))
 }
 
 /// The names and `$` in tokens that depend on addresses, as they are written: `$`, `X`.
@@ -354,7 +428,7 @@ pub(crate) fn size_varies(case: &Case<'_>) -> Result<Draft, AllocError> {
     )?;
     on_part(case, part, text).help(String::from_str(
         alloc,
-        "write the number of bytes, or an EQU that is made from numbers",
+        "write the number of bytes, or an EQU that is made from numbers; to fill up to an address, count the bytes by hand",
     )?)
 }
 
@@ -376,9 +450,22 @@ pub(crate) fn bad_origin(case: &Case<'_>) -> Result<Draft, AllocError> {
         alloc,
         "a program starts at 0100H; no other ORG is supported",
     )?;
-    on_part(case, part, text).help(String::from_str(
-        alloc,
-        "for room at a fixed address write `BUF EQU 8000H`; for more see PORTING.md",
+    let written = part_text(case, part)?;
+    // A number that is 0100H but for its H.
+    if written.as_str() == "100" || written.as_str() == "0100" {
+        return on_part(case, part, text).help(format!(in alloc;
+            "{written} is decimal: write `ORG {written}H`"
+        )?);
+    }
+    let draft = on_part(case, part, text);
+    if !matches!(value, Worth::Number(_)) {
+        return draft.help(String::from_str(
+            alloc,
+            "leave it out, or write `ORG 0100H`; code cannot be made for another address (see PORTING.md)",
+        )?);
+    }
+    draft.help(format!(in alloc;
+        "leave it out, or write `ORG 0100H`; code cannot be made for another address, and room there is `BUF EQU {written}` (see PORTING.md)"
     )?)
 }
 
@@ -389,92 +476,7 @@ pub(crate) fn needs_number(case: &Case<'_>) -> Result<Draft, AllocError> {
     let written = part_text(case, part)?;
     let word = shown(alloc, case.word())?;
     let text = format!(in alloc; "{word} needs a constant here: `{written}` depends on addresses")?;
-    on_part(case, part, text).help(String::from_str(
-        alloc,
-        "write a number, or an EQU that is made from numbers",
-    )?)
-}
-
-/// The divisor after an operator: the next token, or what its parentheses have.
-fn divisor<'a>(part: &Operand<'a>, operator: usize) -> Operand<'a> {
-    let behind = part.part(operator.saturating_add(1), part.tokens.len());
-    for count in 1..behind.tokens.len() {
-        let front = behind.part(0, count);
-        let (open, _) = left_open(front.tokens);
-        if open == 0 {
-            return front;
-        }
-    }
-    behind
-}
-
-/// Whether a token divides.
-fn divides(token: &Token<'_>) -> bool {
-    matches!(token.kind, Kind::Mark(Mark::Slash)) || is_word(b"MOD", token)
-}
-
-/// The first division of the line whose divisor is worth this: the number of its operator among the tokens, and the divisor.
-fn division<'a>(
-    case: &Case<'a>,
-    wanted: Worth,
-) -> Result<Option<(usize, Operand<'a>)>, AllocError> {
-    let all = Operand {
-        at: case.rest_at(),
-        tokens: case.form.rest,
-    };
-    for (at, token) in all.tokens.iter().enumerate() {
-        if divides(token) {
-            let by = divisor(&all, at);
-            if judge(case, by.tokens)? == wanted {
-                return Ok(Some((all.at.saturating_add(at), by)));
-            }
-        }
-    }
-    Ok(None)
-}
-
-/// The line that defines the one name that tokens are: ` (line 1)`.
-fn defined_text(case: &Case<'_>, tokens: &[Token<'_>]) -> Result<String, AllocError> {
-    let alloc = case.alloc;
-    let ([token], Some(known)) = (tokens, case.known) else {
-        return Ok(String::new(alloc));
-    };
-    let upper = token.text.to_ascii_uppercase(alloc)?;
-    match crate::names::defined_at(known, &upper) {
-        Some(line) if !is_reserved(&upper) => {
-            let line = case.line_text(line)?;
-            format!(in alloc; " ({line})")
-        }
-        _ => Ok(String::new(alloc)),
-    }
-}
-
-/// The message about a division by zero.
-pub(crate) fn divides_by_zero(case: &Case<'_>) -> Result<Draft, AllocError> {
-    let alloc = case.alloc;
-    let Some((at, by)) = division(case, Worth::Number(0))? else {
-        let text = String::from_str(alloc, "division by zero")?;
-        return Ok(case.draft(case.rest_at(), case.form.rest.len(), text));
-    };
-    let written = joined(alloc, by.tokens)?;
-    let line = defined_text(case, by.tokens)?;
-    let text = format!(in alloc; "division by zero: {written} is 0{line}")?;
-    Ok(case.draft(at, 1, text))
-}
-
-/// The message about a divisor that depends on addresses.
-pub(crate) fn divisor_varies(case: &Case<'_>) -> Result<Draft, AllocError> {
-    let alloc = case.alloc;
-    let help = String::from_str(alloc, "write a number, or an EQU that is made from numbers")?;
-    let Some((at, by)) = division(case, Worth::Address)? else {
-        let text = String::from_str(alloc, "a divisor must be a constant")?;
-        return case
-            .draft(case.rest_at(), case.form.rest.len(), text)
-            .help(help);
-    };
-    let written = joined(alloc, by.tokens)?;
-    let text = format!(in alloc; "a divisor must be a constant: `{written}` depends on addresses")?;
-    case.draft(at, 1, text).help(help)
+    on_part(case, part, text).help(String::from_str(alloc, FIXED)?)
 }
 
 /// The message about an expression with too many parentheses.

@@ -1,7 +1,7 @@
 //! What an expression of a line is worth, judged with the names of the whole source.
 
 use crate::case::Case;
-use asm_expr::{Names, Settled, constant, is_defined, parse, settle};
+use asm_expr::{Names, Offset, Settled, constant, is_defined, offset_from_here, parse, settle};
 use asm_parse::{ExprFault, Tree};
 use asm_scan::Token;
 use std::alloc::AllocError;
@@ -40,6 +40,24 @@ pub(crate) fn worth_of(case: &Case<'_>, tree: &Tree) -> Result<Worth, AllocError
     match case.known {
         Some(known) => worth_by(case, tree, &known.values),
         None => worth_by(case, tree, &Names::new(case.alloc)),
+    }
+}
+
+/// The bytes of `JR` and `DJNZ`, from whose end their distance counts.
+const SHORT_JUMP: u16 = 2;
+
+/// The distance of a jump to `$+n`, from the end of the jump; None if it is not known.
+pub(crate) fn distance_of(case: &Case<'_>, tree: &Tree) -> Result<Option<u16>, AllocError> {
+    let Some(known) = case.known else {
+        return Ok(None);
+    };
+    if !is_defined(tree, &known.values) {
+        return Ok(None);
+    }
+    match offset_from_here(case.alloc, tree, &known.values) {
+        Ok(Offset::Number(n)) => Ok(Some(n.wrapping_sub(SHORT_JUMP))),
+        Err(ExprFault::NoMemory) => Err(AllocError),
+        _ => Ok(None),
     }
 }
 

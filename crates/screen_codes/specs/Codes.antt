@@ -1,11 +1,11 @@
 -- What is shown today for the screen codes of terminals of CP/M's time.
 -- (The operator's manuals of the Lear Siegler ADM-3A, the Kaypro II, the Osborne 1, the TeleVideo 912 and 920, and the DEC VT52 and Heath H19; the
 -- sequences of today are those of ECMA-48.)
-use Rattle.std.specs.Prelude.{ℕ, ◌==◌, ◌||◌, ◌+◌, ◌-◌, List, [], ◌∷◌, ◌++◌, Option, Some, None, codes, decimal, if◌then◌else◌}
+use Rattle.std.specs.Prelude.{ℕ, ◌==◌, ◌&&◌, ◌||◌, ◌+◌, ◌-◌, Bool, List, [], ◌∷◌, ◌++◌, Option, Some, None, codes, decimal, if◌then◌else◌, nat_le}
 use Rattle.screen_codes.specs.declared.codes.Codes.{Codes}
 use Rattle.screen_codes.specs.declared.codes.Codes.TheVariants.{Plain, Adm3a, Vt52}
 use Rattle.screen_codes.specs.declared.codes.Pending.{Pending}
-use Rattle.screen_codes.specs.declared.codes.Pending.TheVariants.{Nothing, Escape, Line, Column, Rest}
+use Rattle.screen_codes.specs.declared.codes.Pending.TheVariants.{Nothing, Escape, Line, Column, Rest, Attribute}
 
 abbrev pub escape : ℕ
 escape = 0x1B
@@ -30,7 +30,7 @@ abbrev pub adm3a_escape : ℕ → List ℕ
 adm3a_escape byte =
     if (byte == 0x54) || (byte == 0x74) then escape ∷ codes "[K"
     else if (byte == 0x59) || (byte == 0x79) then escape ∷ codes "[J"
-    else if (byte == 0x2A) || (byte == 0x3A) then clear
+    else if (byte == 0x2A) || ((byte == 0x2B) || ((byte == 0x2C) || ((byte == 0x3A) || (byte == 0x3B)))) then clear
     else if byte == 0x45 then escape ∷ codes "[L"
     else if byte == 0x52 then escape ∷ codes "[M"
     else if byte == 0x51 then escape ∷ codes "[@"
@@ -61,11 +61,25 @@ vt52_escape byte =
     else if byte == 0x71 then escape ∷ codes "[27m"
     else []
 
--- A cursor address follows ESC = and ESC Y. One byte follows ESC B, ESC C, ESC G and ESC . of the ADM-3A's kin.
+-- A cursor address follows ESC = and ESC Y. One byte follows ESC B, ESC C and ESC . of the ADM-3A's kin, and ESC x and ESC y of the H19. ESC G is
+-- whole on the Kaypro II and the Osborne 1; on the terminals of TeleVideo an attribute follows. A second ESC begins a new sequence.
 abbrev pub next_after_escape : Codes → ℕ → Pending
 next_after_escape Plain byte = Nothing
-next_after_escape Adm3a byte = if byte == 0x3D then Line else if (byte == 0x42) || ((byte == 0x43) || ((byte == 0x47) || (byte == 0x2E))) then Rest else Nothing
-next_after_escape Vt52 byte = if byte == 0x59 then Line else Nothing
+next_after_escape Adm3a byte =
+    if byte == escape then Escape
+    else if byte == 0x3D then Line
+    else if (byte == 0x42) || ((byte == 0x43) || (byte == 0x2E)) then Rest
+    else if byte == 0x47 then Attribute
+    else Nothing
+next_after_escape Vt52 byte =
+    if byte == escape then Escape
+    else if byte == 0x59 then Line
+    else if (byte == 0x78) || (byte == 0x79) then Rest
+    else Nothing
+
+-- an attribute of the terminals of TeleVideo: a character from 0 to ?
+abbrev pub is_attribute : ℕ → Bool
+is_attribute byte = nat_le 0x30 byte && nat_le byte 0x3F
 
 -- what is shown for the second byte of an escape sequence
 abbrev pub shown_after_escape : Codes → ℕ → List ℕ
@@ -98,6 +112,7 @@ shown_for whose Escape byte = shown_after_escape whose byte
 shown_for whose Line byte = []
 shown_for whose (Column line) byte = cursor line byte
 shown_for whose Rest byte = []
+shown_for whose Attribute byte = if is_attribute byte then [] else shown_alone whose byte
 
 -- what is begun after a byte
 abbrev pub next_for : Codes → Pending → ℕ → Pending
@@ -106,6 +121,7 @@ next_for whose Escape byte = next_after_escape whose byte
 next_for whose Line byte = Column byte
 next_for whose (Column line) byte = Nothing
 next_for whose Rest byte = Nothing
+next_for whose Attribute byte = if is_attribute byte then Nothing else next_alone whose byte
 
 -- What is shown for bytes, and what is begun after them.
 abbrev pub screen_text : Codes → Pending → List ℕ → List ℕ

@@ -1,7 +1,9 @@
 //! What a byte does to the screen of a terminal of CP/M's time.
 
 ghost use Rattle.std.specs.Prelude.{◌≡◌, option_map};
-ghost use Rattle.screen_codes.specs.Codes.{adm3a_control, adm3a_escape, next_after_escape, vt52_escape};
+ghost use Rattle.screen_codes.specs.Codes.{adm3a_control, adm3a_escape, is_attribute, next_after_escape, vt52_escape};
+
+pub(crate) const ESCAPE: u8 = 0x1B;
 
 /// Whose screen codes a program prints.
 #[derive(Clone, Copy, Debug, PartialEq, Eq)]
@@ -26,6 +28,8 @@ pub enum Pending {
     Column(u8),
     /// A sequence that has no meaning here. One more byte belongs to it.
     Rest,
+    /// The same, but a byte that is no attribute does not belong to it.
+    Attribute,
 }
 
 /// What is shown for a byte outside of a sequence that is a control code of the ADM-3A and means something else today.
@@ -50,7 +54,7 @@ pub(crate) fn adm3a_escape(byte: u8) -> &'static [u8]
     match byte {
         b'T' | b't' => b"\x1b[K",
         b'Y' | b'y' => b"\x1b[J",
-        b'*' | b':' => b"\x1b[H\x1b[2J",
+        b'*' | b'+' | b',' | b':' | b';' => b"\x1b[H\x1b[2J",
         b'E' => b"\x1b[L",
         b'R' => b"\x1b[M",
         b'Q' => b"\x1b[@",
@@ -92,8 +96,18 @@ pub(crate) fn next_after_escape(codes: Codes, byte: u8) -> Pending
     ensures { result ≡ next_after_escape codes byte }
 {
     match (codes, byte) {
+        (Codes::Plain, _) => Pending::Nothing,
+        (_, ESCAPE) => Pending::Escape,
         (Codes::Adm3a, b'=') | (Codes::Vt52, b'Y') => Pending::Line,
-        (Codes::Adm3a, b'B' | b'C' | b'G' | b'.') => Pending::Rest,
+        (Codes::Adm3a, b'B' | b'C' | b'.') | (Codes::Vt52, b'x' | b'y') => Pending::Rest,
+        (Codes::Adm3a, b'G') => Pending::Attribute,
         _ => Pending::Nothing,
     }
+}
+
+/// Whether a byte is an attribute of the terminals of TeleVideo, one of the characters from `0` to `?`.
+pub(crate) fn is_attribute(byte: u8) -> bool
+    ensures { result ≡ is_attribute byte }
+{
+    (b'0'..=b'?').contains(&byte)
 }

@@ -1,14 +1,15 @@
 //! A screen that shows what a program puts.
 
 ghost use Rattle.std.specs.Prelude.{◌≡◌, ◌++◌, OnOk, get_or};
-ghost use Rattle.screen_codes.specs.Codes.{cursor, next, next_for, screen_text, shown_after_escape, shown_alone, shown_for};
+ghost use Rattle.screen_codes.specs.Codes.{cursor, next, next_alone, next_for, screen_text, shown_after_escape, shown_alone, shown_for};
 ghost use Rattle.screen_codes.specs.declared.codes.Pending.TheVariants.{Nothing};
 
-use crate::codes::{Codes, Pending, adm3a_control, adm3a_escape, next_after_escape, vt52_escape};
+use crate::codes::{
+    Codes, ESCAPE, Pending, adm3a_control, adm3a_escape, is_attribute, next_after_escape,
+    vt52_escape,
+};
 use itoa::Buffer;
 use std::alloc::AllocError;
-
-const ESCAPE: u8 = 0x1B;
 
 /// The lowest line and column in a cursor address.
 const FIRST: u8 = 0x20;
@@ -31,15 +32,27 @@ impl Screen {
         }
     }
 
+    /// What a byte outside of a sequence begins.
+    fn next_alone(self, byte: u8) -> Pending
+        ensures { result ≡ next_alone self.codes byte }
+    {
+        if byte == ESCAPE && self.codes != Codes::Plain {
+            Pending::Escape
+        } else {
+            Pending::Nothing
+        }
+    }
+
     /// What is begun after a byte.
     fn next_for(self, byte: u8) -> Pending
         ensures { result ≡ next_for self.codes self.pending byte }
     {
         match self.pending {
-            Pending::Nothing if byte == ESCAPE && self.codes != Codes::Plain => Pending::Escape,
+            Pending::Nothing => self.next_alone(byte),
+            Pending::Attribute if !is_attribute(byte) => self.next_alone(byte),
             Pending::Escape => next_after_escape(self.codes, byte),
             Pending::Line => Pending::Column(byte),
-            Pending::Nothing | Pending::Column(_) | Pending::Rest => Pending::Nothing,
+            Pending::Attribute | Pending::Column(_) | Pending::Rest => Pending::Nothing,
         }
     }
 
@@ -49,9 +62,12 @@ impl Screen {
     {
         match self.pending {
             Pending::Nothing => text.extend_from_slice(alone(self.codes, &[byte])),
+            Pending::Attribute if !is_attribute(byte) => {
+                text.extend_from_slice(alone(self.codes, &[byte]))
+            }
             Pending::Escape => text.extend_from_slice(after_escape(self.codes, byte)),
             Pending::Column(line) => add_cursor(line, byte, text),
-            Pending::Line | Pending::Rest => Ok(()),
+            Pending::Attribute | Pending::Line | Pending::Rest => Ok(()),
         }
     }
 

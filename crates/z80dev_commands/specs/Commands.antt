@@ -184,9 +184,9 @@ abbrev pub run_shape : Shape
 run_shape = with_rules (codes "run")
     (option_rule (codes "disk") (codes "IMG") ∷ flag_rule (codes "no-lock") ∷ steps_rule ∷ (telling_rules ++ (path_rule (codes "COM") ∷ words_rule (codes "WORD") ∷ [])))
 
--- `debug [--disk IMG] [--input FILE] [--labels SYM] [--list LST] COM [WORD..]`
+-- `debug [--disk IMG] [--input FILE] [--replay REC] [--labels SYM] [--list LST] COM [WORD..]`
 abbrev pub debug_shape : Shape
-debug_shape = with_rules (codes "debug") (option_rule (codes "disk") (codes "IMG") ∷ option_rule (codes "input") (codes "FILE") ∷ labels_rule
+debug_shape = with_rules (codes "debug") (option_rule (codes "disk") (codes "IMG") ∷ option_rule (codes "input") (codes "FILE") ∷ option_rule (codes "replay") (codes "REC") ∷ labels_rule
     ∷ option_rule (codes "list") (codes "LST") ∷ path_rule (codes "COM") ∷ words_rule (codes "WORD") ∷ [])
 
 -- `play [--disk IMG] [--no-lock] [--steps N] [--raw] [--terminal CODES] [--record FILE] [--replay REC] COM [WORD..]`
@@ -349,7 +349,7 @@ IsJobOf met (Disk job) = IsDiskJobOf met job
 IsJobOf met (Run run) = Meets met (codes "run") (λ rows. FindsIfGiven (codes "IMG") run.disk rows
     × FindsLock run.lock rows × FindsNumber (codes "N") run.steps rows × FindsTelling run.telling rows × HasValue (codes "COM") run.program rows × FindsAny (codes "WORD") run.words.items rows)
 IsJobOf met (Debug debugging) = Meets met (codes "debug") (λ rows. FindsIfGiven (codes "IMG") debugging.disk rows
-    × FindsIfGiven (codes "FILE") debugging.input rows × FindsIfGiven (codes "SYM") debugging.labels rows × FindsIfGiven (codes "LST") debugging.list rows
+    × FindsIfGiven (codes "FILE") debugging.input rows × FindsIfGiven (codes "REC") debugging.replay rows × FindsIfGiven (codes "SYM") debugging.labels rows × FindsIfGiven (codes "LST") debugging.list rows
     × HasValue (codes "COM") debugging.program rows × FindsAny (codes "WORD") debugging.words.items rows)
 IsJobOf met (Play play) = Meets met (codes "play") (λ rows. FindsIfGiven (codes "IMG") play.disk rows × FindsLock play.lock rows
     × FindsNumber (codes "N") play.steps rows × (is_on (codes "raw") rows ≡ play.raw) × FindsIfGiven (codes "CODES") play.terminal rows

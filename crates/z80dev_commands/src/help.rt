@@ -56,8 +56,8 @@ for src/game.asm. With --list, it also writes BASE.lst and BASE.sym.
 With --map, it also writes BASE.map, for people: the addresses of each module,
 its bytes of code, data and space, its public names, the jumps that are short
 and long, and how much room is left. With --symbols zsid, BASE.sym is a file for
-the debuggers ZSID and SID; with --symbols ucsim, it writes BASE.ucsim for the
-simulator of SDCC.
+the debuggers ZSID and SID, and not one for --labels of run and debug; with
+--symbols ucsim, it writes BASE.ucsim for the simulator of SDCC.
 
 --define and --with may be given several times. Each source is assembled as if
 a line `NAME EQU VALUE` for each definition and then all lines of each FILE
@@ -68,7 +68,8 @@ and repetitions; a line that makes bytes or a label is refused, as in
 
 A file that it writes replaces one of the same name without a warning, even one
 that is write-protected. But if a SRC or a FILE has the path of one of them,
-nothing is written, and there is a line `error: Overwrites(PATH)`.
+nothing is written, and there is a line `error: Overwrites(PATH)`. Paths are
+compared as they are written.
 
 A line such as `warning: game.asm(12): ..` tells of code that relies on the
 length of a jump that may be short or long. The files are written all the same,
@@ -99,8 +100,8 @@ name in brackets is the one that `z80dev build` prints. If there is no error,
 explain prints the warnings: about jumps, about labels and externals that are
 not used, about names that are in PUBLIC or EXTRN twice, and about macro calls
 with too many or too few arguments. It prints at most 100 errors or warnings,
-and then how many more there are. It writes no file. `z80dev build --help`
-explains --define and --with.
+and then how many more there are; with --json, all of them. It writes no file.
+`z80dev build --help` explains --define and --with.
 
 Errors in a macro have the line of the macro's body, as it is with the arguments
 of the call, and a note for each call that led there. Some errors hide others,
@@ -112,8 +113,10 @@ between them it needs. With --json, each message is one line, an object with
 path, line, column, severity, name, text and notes; docs/FORMATS.md describes
 it.
 
-The status is 0 if there is a program and no warning. Otherwise it is 1, and a
-line `error: 3 errors` or `error: 1 warning` on standard error has the number.
+The status is 0 if there is a program and no warning, and 1 if there is an error
+or a warning; then a line `error: 3 errors` or `error: 1 warning` on standard
+error has the number. It is 3 if a file cannot be read or standard output fails,
+and 2 if a word of the command is wrong.
 
 Example: z80dev explain main.asm print.asm";
 
@@ -183,8 +186,9 @@ With --text, each LF becomes CR LF, and 1AH is added at the end.
 IMG is locked from before it is read until it is replaced. A second command that
 needs the lock waits up to a second, then ends with `error: file IMG`, status 3.
 With --no-lock, nothing waits, and of two commands that change IMG at the same
-time one may undo what the other did. The error is the same if IMG is missing,
-is write-protected or is a symbolic link to nothing.
+time one may undo what the other did, or end with that error and lose its own
+changes. The error is the same if IMG is missing, is write-protected or is a
+symbolic link to nothing.
 
 If its bytes stay the same, IMG is not written. If IMG is write-protected, it is
 not replaced. It keeps its permissions, and its owner if the system allows it.
@@ -276,19 +280,23 @@ Example: z80dev blank --keep a.img";
 pub(crate) const DEBUG: &str =
     r"Reads COM and then commands from standard input, a line each, and prints an
 answer to each before it reads the next. The commands step, next, finish and run
-make steps of the program, back, back-run and turn go back to an earlier state,
-and break, watch and who find the place. `help` prints all of them, and `quit`
-ends the session.
+make steps of the program, back, back-next and back-run go back, turn goes to any
+state, and break, watch and who find the place. `help` prints all of them, and
+`quit` ends the session.
 
 Nothing is written: what the program writes to its disk is gone at the end. What
 it prints is shown after `| `. What it gets as typed comes from FILE, with each
-line end as one CR. With --labels, an address may be given as a label of SYM,
-and is printed with the label before it. With --list, where also shows the line
-of LST. Both are files that `z80dev build --list` writes.
+line end as one CR. With --replay, the session that `z80dev play --record` wrote
+to REC is debugged: each of its bytes comes after the same number of steps. With
+--labels, an address may be given as a label of SYM, and is printed with the
+label before it. With --list, where also shows the line of LST. Both are files
+that `z80dev build --list` writes.
 
 The status is 0 at the end of the commands, and 1 with a line `error: ..` if the
-program is too long, its words are, IMG is not an image of a disk, or SYM is not
-a file of labels.
+program is too long, its words are, IMG is not an image of a disk, SYM is not a
+file of labels, or REC is not the record of a session. It is 2 if a word of the
+command is wrong, and 3 if a file cannot be read, or standard input or output
+fails.
 
 Example: z80dev debug --labels game.sym game.com
 waits for a command, such as step, regs, back, help or quit.";
@@ -299,9 +307,11 @@ as it comes. Start it at a terminal by the script z80dev-play, with the same
 words: the script puts the terminal into the mode in which each key comes as it
 is pressed (--raw), and puts it back at the end. Without the script, input comes
 by lines, and an LF is the key RETURN. What the program prints is shown when it
-asks for input, or 2,000,000 steps later at the latest.
+asks for input, and otherwise within 4,000,000 steps.
 
-At a terminal, press Ctrl-\ twice to leave. Ctrl-C is the program's own.
+Under z80dev-play, press Ctrl-\ twice to leave; Ctrl-C is the program's own.
+Without the script, each of them ends z80dev itself at a terminal, and nothing
+is written.
 
 A call that takes a byte or a line waits for it; function 10 shows the line as
 it is typed. A call that asks whether a byte is there is answered by what has
@@ -315,9 +325,12 @@ the byte in hexadecimal; and at the end the number of steps. With --replay, it
 plays the session of such a file REC again, and standard input is not read: with
 the same program, words and image, each step is the same as then.
 
-The status is that of run: 0 if the program finished or you left, and 1 with a
-line `stopped: WHY at PC` if it was stopped, or a line `error: ..` if REC is not
-the record of a session.
+The status is 0 if the program finished, you left, or the session of REC is
+over; 1 with a line `stopped: WHY at PPPP` if the program was stopped, or with a
+line `error: ..` if IMG is not an image of a disk or REC is not the record of a
+session; 2 if a word of the command is wrong, as a FILE that is COM, IMG or REC
+or ends with .com; and 3 if a file cannot be read or written, IMG cannot be
+locked, or standard input or output fails.
 
 Example: z80dev-play --disk game.img game.com
 runs game.com at the keyboard.";
@@ -353,10 +366,11 @@ has the label of SYM before it and how many bytes after it.
 
 The status is 0 if the program ends by itself, and 1 if something stops it or it
 is too long to be loaded; then standard error has a line `stopped: WHY at PPPP`.
-If a file is at fault, there is a line `error: ..` instead: the status is 1 if
-IMG is not an image of a disk, if SYM is not a file of labels, or if TRC or PRF
-is a file that is read or they are the same, and 3 if a file cannot be read or
-written or IMG cannot be locked. If TRC or PRF cannot be written, the line comes
-after the others.
+If a file or an option is at fault, there is a line `error: ..` instead: the
+status is 1 if IMG is not an image of a disk, if SYM is not a file of labels, if
+TRC or PRF is a file that is read or ends with .com or they are the same, or if
+--list is given without --profile, or --labels without --regs, --last, --trace
+and --profile, and 3 if a file cannot be read or written or IMG cannot be
+locked. If TRC or PRF cannot be written, the line comes after the others.
 
 Example: z80dev run --disk a.img game.com FILE.TXT";

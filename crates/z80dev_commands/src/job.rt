@@ -280,8 +280,10 @@ pub struct Run<'a> {
 pub struct Debugging<'a> {
     /// The path of the image of its disk, if one is given. It is not written.
     pub disk: Option<&'a str>,
-    /// The path of the file with what is typed, if one is given.
+    /// The path of the file with what is typed before the start, if one is given.
     pub input: Option<&'a str>,
+    /// The path of the file of an earlier session at a keyboard, if its bytes are to come again.
+    pub replay: Option<&'a str>,
     /// The path of a file of labels, if one is given.
     pub labels: Option<&'a str>,
     /// The path of a listing, if one is given.

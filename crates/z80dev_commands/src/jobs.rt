@@ -432,6 +432,7 @@ fn debug<'a>(alloc: Global, found: &ArgMatches<'a>) -> Result<Job<'a>, AllocErro
     Ok(Job::Debug(Debugging {
         disk: text_if_given(found, "IMG"),
         input: text_if_given(found, "FILE"),
+        replay: text_if_given(found, "REC"),
         labels: text_if_given(found, "SYM"),
         list: text_if_given(found, "LST"),
         program: text(found, "COM"),

@@ -383,7 +383,13 @@ fn debug<'a>(alloc: Global) -> Result<Command<'a>, AllocError>
         alloc,
         "input",
         "FILE",
-        "The path of the file with what is typed [default: nothing]",
+        "The path of the file with what is typed before the start [default: nothing]",
+    ))?
+    .arg(option(
+        alloc,
+        "replay",
+        "REC",
+        "Debugs a recorded session: what came then comes at the same steps",
     ))?
     .arg(labels(alloc))?
     .arg(option(

@@ -26,7 +26,7 @@ use Rattle.z80dev_explain.specs.Reports.{bears_name, is_report_of, link_name}
 abbrev pub warning_count : Built → ℕ
 warning_count built = let modules = map module_of built.modules.items in length (found_unless (first_fault modules) (all_warnings (joined modules)))
 
--- a warning is about a line that comes after this many
+-- a warning is about a line after the first `before`
 abbrev pub is_behind : ℕ → SourceWarning → Bool
 is_behind before w = nat_lt before w.line.number
 
@@ -34,11 +34,11 @@ abbrev pub one_if : Bool → ℕ
 one_if true = 1
 one_if false = 0
 
--- how many warnings about a source are about lines that come after this many
+-- how many warnings about a source are about lines after the first `before`
 abbrev pub own_count : ℕ → List SourceWarning → ℕ
 own_count before found = sum_by (λ w. one_if (is_behind before w)) found
 
--- a source has this number of warnings in lines that come after so many: about names, and about calls
+-- a source has this number of warnings in lines that come after the first `before`: about names, and about calls
 abbrev pub HasWarnings : ℕ → List ℕ → ℕ → Type 0
 HasWarnings before text count = (found calls : List SourceWarning) × AreSourceWarnings text found × AreCallWarnings text calls × (count ≡ own_count before found + own_count before calls)
 

@@ -3,6 +3,9 @@ use Rattle.std.specs.Prelude.{◌≡◌, ℕ, Bool, true, false, ◌==◌, List,
 use Rattle.z80dev_make.specs.declared.answer.SourceFile.{SourceFile}
 use Rattle.z80dev_make.specs.declared.front.Front.{Front}
 use Rattle.z80dev_explain.specs.Explained.{IsExplained}
+use Rattle.z80dev_explain.specs.Printed.{IsPrinted}
+use Rattle.z80dev_explain.specs.declared.explaining.Asked.{Asked}
+use Rattle.z80dev_explain.specs.declared.printing.Form.{Form}
 use Rattle.z80dev_explain.specs.declared.report.Report.{Report}
 
 -- there is a program, and nothing to report
@@ -18,11 +21,19 @@ abbrev pub summary_of : Bool → List Report → Option (List ℕ)
 summary_of false reports = Some (count_text (length reports) (codes "error"))
 summary_of true reports = if length reports == 0 then None else Some (count_text (length reports) (codes "warning"))
 
--- The sources are explained so, and summed up so; there is no summary exactly if there is a program and nothing to report.
-pub record IsExplanation (front : Front) (grow : Bool) (files : List SourceFile) (text : List ℕ) (summary : Option (List ℕ)) : Type 0 where
+-- This text is that of the reports, followed by that of the notes about long jumps.
+abbrev pub IsPrintedWith : Form → List Report → List Report → List ℕ → Type 0
+IsPrintedWith form reports longs text = (first : List ℕ) × (second : List ℕ) × IsPrinted form reports first × IsPrinted form longs second × (text ≡ first ++ second)
+
+-- The sources are explained so, and summed up so; there is no summary exactly if there is a program and nothing to report. Notes about long jumps are
+-- printed only if they are asked for.
+pub record IsExplanation (front : Front) (asked : Asked) (files : List SourceFile) (text : List ℕ) (summary : Option (List ℕ)) : Type 0 where
   pub has_program : Bool
   pub reports : List Report
-  pub explained : IsExplained front grow files has_program reports
+  pub longs : List Report
+  pub explained : IsExplained front asked.grow files has_program reports
+  pub unasked : asked.jumps ≡ false → longs ≡ []
+  pub printed : IsPrintedWith asked.form reports longs text
   pub sum : summary ≡ summary_of has_program reports
   pub fine : summary ≡ None → IsFine has_program reports
   pub wrong : IsFine has_program reports → summary ≡ None

@@ -1,3 +1,4 @@
 pub mod Reports
+pub mod Printed
 pub mod Explained
 pub mod Explanation

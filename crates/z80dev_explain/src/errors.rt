@@ -172,8 +172,13 @@ impl<'s, 'f> Faulty<'s, 'f> {
         let own = self.sources.located(self.source, closer.line);
         let (path, number) = (own.path, own.line);
         let mut notes = Vec::new(alloc);
+        let role = if word.as_bytes().eq_ignore_ascii_case(b"ELSE") {
+            "belonged to it"
+        } else {
+            "was to close it"
+        };
         notes.push(Note::Note(format!(in alloc;
-            "so the {word} at {path}:{number}, where building stops, has no block"
+            "the {word} at {path}:{number} {role}: building stops there, as no block is open"
         )?))?;
         let site = Site {
             line,
@@ -437,7 +442,7 @@ fn is_macro(alloc: Global, line: &[u8], name: &[u8]) -> Result<bool, AllocError>
     }
 }
 
-/// A source of which nothing is known yet.
+/// A source before anything is known of it.
 fn begun<'s, 'f>(
     alloc: Global,
     sources: &'s Sources<'s, 'f>,

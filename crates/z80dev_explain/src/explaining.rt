@@ -1,6 +1,6 @@
 //! Explains why sources have no program, or what to look at in the one that they have.
 
-ghost use Rattle.std.specs.Prelude.{◌≡◌, ◌<◌, ◌+◌, ℕ, All, IfOk, List, length, map, option_copied, true};
+ghost use Rattle.std.specs.Prelude.{◌≡◌, ◌<◌, ◌+◌, ℕ, All, IfOk, List, [], false, length, map, option_copied, true};
 ghost use Rattle.std.specs.List.{AllZip, list_any, sum_by};
 ghost use Rattle.z80dev_make.specs.Front.{CountsLines, front_lines};
 ghost use Rattle.zmo_module.specs.Modules.{module_of};
@@ -196,6 +196,7 @@ fn longs_of<'a>(
     built: &Built,
 ) -> Result<Vec<Report<'a>>, AllocError>
     requires { All IsModule (map module_of built.now.modules.items) }
+    ensures { IfOk result (λ longs. wanted ≡ false → longs.items ≡ []) }
 {
     if wanted {
         long_jumps_of(alloc, sources, built)
@@ -213,7 +214,8 @@ fn explain_behind<'a>(
 ) -> Result<Explained<'a>, AllocError>
     requires are { AllZip (IsBehind sources.now.front) sources.now.files.now behind.now }
     requires before { CountsLines sources.now.before (front_lines sources.now.front) }
-    ensures { IfOk result (λ e. IsExplainedBehind sources.now.front asked.grow sources.now.files.now e.has_program e.reports.items) }
+    ensures explained { IfOk result (λ e. IsExplainedBehind sources.now.front asked.grow sources.now.files.now e.has_program e.reports.items) }
+    ensures unasked { IfOk result (λ e. asked.jumps ≡ false → e.longs.items ≡ []) }
 {
     let grow = asked.grow;
     match build_with(alloc, behind, grow) {
@@ -278,7 +280,8 @@ pub fn explain<'a>(
     files: &[SourceFile<'a>],
     asked: Asked,
 ) -> Result<Explained<'a>, AllocError>
-    ensures { IfOk result (λ e. IsExplained front.entry asked.grow files.now e.has_program e.reports.items) }
+    ensures explained { IfOk result (λ e. IsExplained front.entry asked.grow files.now e.has_program e.reports.items) }
+    ensures unasked { IfOk result (λ e. asked.jumps ≡ false → e.longs.items ≡ []) }
 {
     let before = front_text(alloc, front)?;
     if let Some(told) = fault_of_front(alloc, front, &before)? {

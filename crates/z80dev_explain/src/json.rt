@@ -1,18 +1,10 @@
 //! Prints a report as one line of JSON, for editors and scripts.
 
-use crate::report::{Report, Severity};
+use crate::printing::severity_word;
+use crate::report::Report;
 use error_messages::Note;
 use serde_json::{Value, json};
 use std::alloc::{AllocError, Global};
-
-/// The word for how grave a report is.
-pub(crate) fn severity_text(severity: Severity) -> &'static str {
-    match severity {
-        Severity::Error => "error",
-        Severity::Warning => "warning",
-        Severity::Note => "note",
-    }
-}
 
 /// Answers a note as an object with its kind and its text.
 fn note_value(alloc: Global, note: &Note) -> Result<Value, AllocError> {
@@ -33,7 +25,7 @@ fn notes_value(alloc: Global, notes: &[Note]) -> Result<Value, AllocError> {
 
 /// Answers a report as an object. One about the program as a whole has no path, line and column.
 fn report_value(alloc: Global, report: &Report<'_>) -> Result<Value, AllocError> {
-    let severity = severity_text(report.severity);
+    let severity = severity_word(report.severity);
     let text = &report.text;
     let name = &report.name;
     let notes = notes_value(alloc, &report.notes)?;

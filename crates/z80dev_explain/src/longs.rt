@@ -99,7 +99,7 @@ impl<'b, 's, 'f> Named<'b, 's, 'f> {
     }
 }
 
-/// Answers a report of each long jump of a program, first those of which the fewest bytes are missing.
+/// Answers a report of each long jump of a program. Those come first that are the fewest bytes too long.
 pub(crate) fn long_jumps_of<'f>(
     alloc: Global,
     sources: &Sources<'_, 'f>,

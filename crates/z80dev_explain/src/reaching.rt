@@ -259,7 +259,9 @@ impl Far {
                 let condition = condition_text(condition);
                 format!(in alloc; "write `JP {condition}{name}`, or build with --grow")
             }
-            Branch::CountDown => format!(in alloc; "write `DEC B` and `JP NZ,{name}`"),
+            Branch::CountDown => format!(in alloc;
+                "write `DEC B` and `JP NZ,{name}`; unlike DJNZ, DEC changes flags"
+            ),
         }
     }
 }

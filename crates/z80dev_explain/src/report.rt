@@ -52,6 +52,6 @@ pub struct Explained<'a> {
     pub has_program: bool,
     /// Their errors or warnings, in the order of the sources and their lines.
     pub reports: Vec<Report<'a>>,
-    /// Notes about its long jumps, if they are wanted: first those of which the fewest bytes are missing.
+    /// Notes about its long jumps, if they are wanted. Those come first that are the fewest bytes too long.
     pub longs: Vec<Report<'a>>,
 }

@@ -60,7 +60,7 @@ pub fn explain_sources(
     files: &[SourceFile<'_>],
     asked: Asked,
 ) -> Result<Explanation, AllocError>
-    ensures { IfOk result (λ e. IsExplanation front.entry asked.grow files.now e.text.items (option_map (λ s. string_bytes s) e.summary)) }
+    ensures { IfOk result (λ e. IsExplanation front.entry asked files.now e.text.items (option_map (λ s. string_bytes s) e.summary)) }
 {
     let Explained {
         has_program,

@@ -1,9 +1,14 @@
 -- How `explain` ends.
-use Rattle.std.specs.Prelude.{◌≡◌, ◌⊎◌, ℕ, List, Option, None, Some, map, string_bytes}
+use Rattle.std.specs.Prelude.{◌≡◌, ◌≢◌, ◌⊎◌, ℕ, Bool, true, false, List, Option, None, Some, codes, if◌then◌else◌, map, string_bytes}
+use Rattle.std.specs.Borrow.{Bor}
+use Rattle.std.specs.Str.{bytes_eq}
 use Rattle.streams.specs.Stream.{Stream}
 use Rattle.streams.specs.Writing.{PutsAll, PutsFront}
 use Rattle.z80dev_commands.specs.declared.job.Explain.{Explain}
 use Rattle.z80dev_explain.specs.Explanation.{IsExplanation}
+use Rattle.z80dev_explain.specs.declared.explaining.Asked.{Asked}
+use Rattle.z80dev_explain.specs.declared.printing.Form.{Form}
+use Rattle.z80dev_explain.specs.declared.printing.Form.TheVariants as form
 use Rattle.z80dev_finish.specs.declared.end.End.{End}
 use Rattle.z80dev_finish.specs.declared.end.End.TheVariants as end
 use Rattle.z80dev_make.specs.declared.answer.SourceFile.{SourceFile}
@@ -20,11 +25,30 @@ PrintsWith text summary before after _ = ⊥
 abbrev pub explained_paths : Explain → List (List ℕ)
 explained_paths explain = map (λ path. path.now) explain.sources.items
 
+-- whether colours are asked for or refused, if either is
+abbrev pub color_wish : Option (Bor (List ℕ)) → Option Bool
+color_wish None = None
+color_wish (Some when) = if bytes_eq when.now (codes "always") then Some true else if bytes_eq when.now (codes "never") then Some false else None
+
+abbrev pub IsColored : Option Bool → Form → Type 0
+IsColored (Some true) f = f ≡ form.Colored
+IsColored (Some false) f = f ≡ form.Plain
+IsColored None f = f ≢ form.Json
+
+-- How an explanation is printed: as JSON if that is asked for; otherwise in colours or not, as is asked for; otherwise either way.
+abbrev pub IsFormFor : Bool → Option (Bor (List ℕ)) → Form → Type 0
+IsFormFor true color f = f ≡ form.Json
+IsFormFor false color f = IsColored (color_wish color) f
+
+-- what is asked about sources
+abbrev pub IsAsked : Explain → Asked → Type 0
+IsAsked explain asked = (asked.grow ≡ explain.grow) × (asked.jumps ≡ explain.jumps) × IsFormFor explain.json explain.color asked.form
+
 -- An explanation is printed of the sources, with definitions and shared files before each of them, all of which were read.
 abbrev pub PrintsExplanation : Explain → List (List ℕ) → List (List ℕ) → Stream → Stream → End → Type 0
-PrintsExplanation explain fronts texts before after e = (front : Front) × (files : List SourceFile) × (text : List ℕ) × (summary : Option (List ℕ))
+PrintsExplanation explain fronts texts before after e = (front : Front) × (files : List SourceFile) × (asked : Asked) × (text : List ℕ) × (summary : Option (List ℕ))
     × IsFront explain.shared fronts front × AreFiles (explained_paths explain) texts files
-    × IsExplanation front explain.grow files text summary × PrintsWith text summary before after e
+    × IsAsked explain asked × IsExplanation front asked files text summary × PrintsWith text summary before after e
 
 -- It is printed; or memory ran out for it, and nothing is printed.
 abbrev pub Explains : Explain → List (List ℕ) → List (List ℕ) → Stream → Stream → End → Type 0

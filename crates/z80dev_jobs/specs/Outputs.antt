@@ -1,6 +1,7 @@
 -- Which files a command writes, and why it may not write them.
 use Rattle.std.specs.Prelude.{ℕ, ◌-◌, ◌==◌, ◌&&◌, not, Bool, true, List, [], ◌∷◌, ◌++◌, Option, None, Some, codes, drop, find, if◌then◌else◌, length, map, option_map, slice_get, take}
 use Rattle.std.specs.Borrow.{Bor}
+use Rattle.std.specs.Char.{to_ascii_lowercase}
 use Rattle.std.specs.List.{list_any}
 use Rattle.std.specs.Option.{option_map_or}
 use Rattle.std.specs.Path.{dot, rfind_below, slash}
@@ -20,6 +21,10 @@ overwritten base kinds read = find (λ path. list_any (bytes_eq path) read) (map
 abbrev pub why_not_written : List ℕ → List Kind → List (List ℕ) → Option (List ℕ)
 why_not_written [] kinds read = Some (codes "NoBase")
 why_not_written (byte ∷ more) kinds read = option_map over_text (overwritten (byte ∷ more) kinds read)
+
+-- the path ends with `.com`, in upper or lower case, as that of a program does
+abbrev pub names_program : List ℕ → Bool
+names_program path = bytes_eq (map to_ascii_lowercase (drop (length path - 4) path)) (codes ".com")
 
 -- a path ends where the name of a file begins: it is empty, or its last byte is a slash
 abbrev pub ends_before_name : List ℕ → Bool

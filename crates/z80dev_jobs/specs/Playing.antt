@@ -8,6 +8,8 @@ use Rattle.cpm_run.specs.declared.arriving.PlayEnd.{PlayEnd}
 use Rattle.cpm_run.specs.declared.arriving.PlayEnd.TheVariants as play
 use Rattle.screen_codes.specs.declared.codes.Codes.{Codes}
 use Rattle.screen_codes.specs.declared.codes.Codes.TheVariants.{Plain, Adm3a, Vt52}
+use Rattle.screen_codes.specs.declared.codes.Pending.{Pending}
+use Rattle.screen_codes.specs.declared.codes.Pending.TheVariants.{Nothing}
 use Rattle.streams.specs.Stream.{Stream}
 use Rattle.streams.specs.declared.writing.WriteFailed.{WriteFailed}
 use Rattle.z80dev_commands.specs.declared.job.Play.{Play}
@@ -15,9 +17,9 @@ use Rattle.z80dev_finish.specs.End.{Tells, end_status}
 use Rattle.z80dev_finish.specs.Files.{Folder, Stores}
 use Rattle.z80dev_finish.specs.declared.end.End.{End}
 use Rattle.z80dev_finish.specs.declared.end.End.TheVariants as end
-use Rattle.z80dev_jobs.specs.Outputs.{over_text}
+use Rattle.z80dev_jobs.specs.Outputs.{names_program, over_text}
 use Rattle.z80dev_jobs.specs.Reading.{IsNotRead, IsRead}
-use Rattle.z80dev_jobs.specs.Running.{ClaimsDisk, EndsBefore, IsDiskNotClaimed, IsKept, IsNoDisk, WarnsAfter, lines_in}
+use Rattle.z80dev_jobs.specs.Running.{ClaimsDisk, EndsBefore, IsDiskNotClaimed, IsKept, IsNoDisk, ReportsWritten, lines_in}
 use Rattle.z80dev_jobs.specs.Values.{either}
 use Rattle.z80dev_jobs.specs.World.{World}
 use Rattle.z80dev_jobs.specs.declared.running.Inputs.{Inputs}
@@ -48,13 +50,15 @@ abbrev pub bad_terminal : Option (Bor (List ℕ)) → Option (List ℕ)
 bad_terminal None = None
 bad_terminal (Some word) = if is_some (codes_named word.now) then None else Some (codes "BadTerminal(" ++ word.now ++ codes ")")
 
--- the record has the path of the program or of the image
+-- a file of this path, as it is written, is read: the program, the image or the record that is played again
 abbrev pub is_read_by : Play → List ℕ → Bool
-is_read_by p path = bytes_eq path p.program.now || option_map_or (λ disk. bytes_eq path disk.now) p.disk false
+is_read_by p path =
+    bytes_eq path p.program.now || (option_map_or (λ disk. bytes_eq path disk.now) p.disk false || option_map_or (λ played. bytes_eq path played.now) p.replay false)
 
+-- The path of the new record is one that is read, or that of a program.
 abbrev pub bad_record : Play → Option (Bor (List ℕ)) → Option (List ℕ)
 bad_record p None = None
-bad_record p (Some path) = if is_read_by p path.now then Some (over_text path.now) else None
+bad_record p (Some path) = if is_read_by p path.now || names_program path.now then Some (over_text path.now) else None
 
 -- the text for the first value that is wrong: the terminal, then the path of the record
 abbrev pub bad_in_play : Play → Option (List ℕ)
@@ -102,29 +106,28 @@ Records (Some path) arrivals turns old new (Ok done) = Stores old new (path.now,
 Records (Some path) arrivals turns old new (Err (end.File at last)) = (at.now ≡ path.now) × (last.now ≡ []) × (failed : WriteFailed) × Stores old new (path.now, record_text arrivals turns) (Err failed)
 Records (Some path) arrivals turns old new (Err e) = (e ≡ end.NoMemory) × (new ≡ old)
 
--- The image that a session leaves is kept; then the session is written.
-abbrev pub KeepsPlayed : Play → List ℕ → List ℕ → List Arrival → ℕ → Folder → Folder → Result Unit End → Type 0
-KeepsPlayed p bytes image arrivals turns old new (Ok done) = (mid : Folder) × IsKept p.disk bytes image old mid (Ok done) × Records p.record arrivals turns mid new (Ok done)
+-- The image that a session leaves is kept; then the session is written. If the image cannot be kept, the session is not written.
+abbrev pub KeepsPlayed : Play → List ℕ → List ℕ → List Arrival → ℕ → Folder → Folder → Result (Result Unit End) End → Type 0
+KeepsPlayed p bytes image arrivals turns old new (Ok written) = (mid : Folder) × (done : Unit {0}) × IsKept p.disk bytes image old mid (Ok done) × Records p.record arrivals turns mid new written
 KeepsPlayed p bytes image arrivals turns old new (Err e) = IsKept p.disk bytes image old new (Err e)
-    ⊎ ((mid : Folder) × (done : Unit {0}) × IsKept p.disk bytes image old mid (Ok done) × Records p.record arrivals turns mid new (Err e))
 
 -- ---- the end
 
--- It is reported why the session ended: a program that finished and a person who left are status 0, with the lines that warn.
-abbrev pub EndsSession : Option (List ℕ) → PlayEnd → ℕ → Stream → Stream → ℕ → Type 0
-EndsSession lines (play.Run why) pc old new status = (mid : Stream) × Concludes why pc old mid status × WarnsAfter lines mid new status
-EndsSession lines play.Left pc old new status = (status ≡ 0) × WarnsAfter lines old new status
-EndsSession lines play.Failed pc old new status = (status ≡ 3) × Tells end.Stream old new
-EndsSession lines play.NoMemory pc old new status = (status ≡ 1) × Tells end.NoMemory old new
+-- It is reported why the session ended. A program that finished and a person who left are status 0.
+abbrev pub ConcludesPlay : PlayEnd → ℕ → Stream → Stream → ℕ → Type 0
+ConcludesPlay (play.Run why) pc old new status = Concludes why pc old new status
+ConcludesPlay play.Left pc old new status = (status ≡ 0) × (new ≡ old)
+ConcludesPlay play.Failed pc old new status = (status ≡ 3) × Tells end.Stream old new
+ConcludesPlay play.NoMemory pc old new status = (status ≡ 1) × Tells end.NoMemory old new
 
--- It is reported that a file could not be written; or why the session ended.
-abbrev pub ReportsPlay : Option (List ℕ) → Result Unit End → PlayEnd → ℕ → Stream → Stream → ℕ → Type 0
-ReportsPlay lines (Ok done) end pc old new status = EndsSession lines end pc old new status
+-- It is reported that the image cannot be written; or why the session ended, and then whether the session could be written.
+abbrev pub ReportsPlay : Option (List ℕ) → Result (Result Unit End) End → PlayEnd → ℕ → Stream → Stream → ℕ → Type 0
+ReportsPlay lines (Ok written) end pc old new status = (mid : Stream) × (first : ℕ) × ConcludesPlay end pc old mid first × ReportsWritten lines written first mid new status
 ReportsPlay lines (Err e) end pc old new status = (status ≡ end_status e) × Tells e old new
 
 abbrev pub EndsPlay : Play → Inputs → PlayEnd → ℕ → ℕ → List ℕ → List Arrival → Folder → Folder → Stream → Stream → ℕ → Type 0
 EndsPlay p inputs end turns pc image arrivals old new before after status =
-    (kept : Result Unit End) × KeepsPlayed p inputs.image.items image arrivals turns old new kept × ReportsPlay (lines_in inputs) kept end pc before after status
+    (kept : Result (Result Unit End) End) × KeepsPlayed p inputs.image.items image arrivals turns old new kept × ReportsPlay (lines_in inputs) kept end pc before after status
 
 -- A program is played; or it is played again, if there is a record.
 abbrev pub IsSession : List ℕ → List (List ℕ) → List ℕ → ℕ → Option Recorded → Seat → PlayEnd → ℕ → ℕ → List ℕ → List Arrival → Seat → Type 0
@@ -133,15 +136,16 @@ IsSession file words image steps (Some recorded) before end turns pc left arriva
 
 -- who sits at the streams of a world at the beginning
 abbrev pub seated : Play → World → Seat
-seated p world = seat_of (codes_of p.terminal) (keys_of p.raw) false world.input.left world.output.bytes
+seated p world = seat_of (codes_of p.terminal) Nothing (keys_of p.raw) false world.input.left world.output.bytes
 
--- The program is run with its words on the disk for somebody at standard input and standard output; then the session ends. What is known of the
--- streams before is known afterwards: of output if no codes are changed on the way, and of input.
+-- The program is run with its words on the disk for somebody at standard input and standard output; then the session ends. The streams do not tell
+-- which screen codes and keys the seat at the end has, nor what is begun there. For no bytes all codes print nothing. So with any codes of the
+-- beginning it is known what standard output has at the end: what it had, and then what is printed for the bytes that the program put.
 abbrev pub Plays : Play → Inputs → Option Recorded → Folder → World → World → ℕ → Type 0
 Plays p inputs recorded claimed old new status =
-    (end : PlayEnd) × (turns pc : ℕ) × (image : List ℕ) × (arrivals : List Arrival) × (whose : Codes) × (keys : Keys) × (left : Bool)
+    (end : PlayEnd) × (turns pc : ℕ) × (image : List ℕ) × (arrivals : List Arrival) × (whose : Codes) × (pending : Pending) × (keys : Keys) × (is_leaving : Bool)
     × IsSession inputs.program.items (map (λ word. word.now) p.words.items) inputs.image.items (unwrap_or p.steps most_steps) recorded (seated p old)
-    end turns pc image arrivals (seat_of whose keys left new.input.left new.output.bytes)
+    end turns pc image arrivals (seat_of whose pending keys is_leaving new.input.left new.output.bytes)
     × EndsPlay p inputs end turns pc image arrivals claimed new.folder old.errors new.errors status
 
 -- `play`: the files are read, and the program is played. Standard input is read only while it is.

@@ -25,7 +25,7 @@ use Rattle.z80dev_commands.specs.declared.job.Telling.{Telling}
 use Rattle.z80dev_finish.specs.Files.{Folder, Stores}
 use Rattle.z80dev_finish.specs.declared.end.End.{End}
 use Rattle.z80dev_finish.specs.declared.end.End.TheVariants as end
-use Rattle.z80dev_jobs.specs.Outputs.{over_text}
+use Rattle.z80dev_jobs.specs.Outputs.{names_program, over_text}
 use Rattle.z80dev_jobs.specs.declared.telling.Told.{Told}
 use Rattle.z80dev_run.specs.Coverage.{coverage_line}
 use Rattle.z80dev_run.specs.Labelled.{Known}
@@ -34,7 +34,6 @@ use Rattle.z80dev_run.specs.Profile.{IsProfile}
 use Rattle.z80dev_run.specs.Program.{IsTracedRan}
 use Rattle.z80dev_run.specs.Registers.{is_lost, machine_text}
 use Rattle.z80dev_run.specs.Reports.{IsTraceFile}
-use Rattle.z80dev_run.specs.declared.reports.TheConstants.{TRACE_STEPS}
 
 -- ---- what is asked for
 
@@ -49,7 +48,7 @@ is_silent telling = not telling.registers && ((last_count telling == 0) && (not 
 -- What a run is to keep. The last three steps say from where the program came to its end, so three more are kept than are asked for.
 abbrev pub wish_of : Telling → Wish
 wish_of telling = record {
-  first = if is_some telling.trace then TRACE_STEPS else 0;
+  first = if is_some telling.trace then 1000000 else 0;
   last = if telling.registers || not (last_count telling == 0) then last_count telling + 3 else 0;
   counts = is_some telling.profile;
 }
@@ -65,16 +64,20 @@ is_given path (Some other) = bytes_eq path other.now
 abbrev pub reads_file : Run → List ℕ → Bool
 reads_file run path = is_given path run.disk || (bytes_eq path run.program.now || (is_given path run.telling.labels || is_given path run.telling.list))
 
+-- the run writes no file of this path: it reads it, or it is that of a program
+abbrev pub is_kept : Run → List ℕ → Bool
+is_kept run path = reads_file run path || names_program path
+
 abbrev pub if_read : Bool → List ℕ → Option (List ℕ)
 if_read is_read path = if is_read then Some path else None
 
 abbrev pub trace_over : Run → Option (Bor (List ℕ)) → Option (List ℕ)
 trace_over run None = None
-trace_over run (Some path) = if_read (reads_file run path.now) path.now
+trace_over run (Some path) = if_read (is_kept run path.now) path.now
 
 abbrev pub profile_over : Run → Option (Bor (List ℕ)) → Option (List ℕ)
 profile_over run None = None
-profile_over run (Some path) = if_read (reads_file run path.now || is_given path.now run.telling.trace) path.now
+profile_over run (Some path) = if_read (is_kept run path.now || is_given path.now run.telling.trace) path.now
 
 -- the option that would do nothing: labels if no address is printed, or a listing if there is no profile
 abbrev pub unused : Telling → Option (List ℕ)
@@ -84,8 +87,8 @@ unused telling =
 abbrev pub unused_text : List ℕ → List ℕ
 unused_text option = codes "Unused(" ++ option ++ codes ")"
 
--- Why a run may not tell what it is asked for: the path of the trace is one that it reads; or that of the profile is, or is that of the trace; or an
--- option would do nothing.
+-- Why a run may not tell what it is asked for: the path of the trace is one that it reads or that of a program; or that of the profile is, or is that
+-- of the trace; or an option would do nothing.
 abbrev pub why_not_told : Run → Option (List ℕ)
 why_not_told run =
     option_or (option_map over_text (option_or (trace_over run run.telling.trace) (profile_over run run.telling.profile))) (option_map unused_text (unused run.telling))

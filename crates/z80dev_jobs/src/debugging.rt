@@ -2,7 +2,7 @@
 
 ghost use Rattle.std.specs.Prelude.{◌≡◌, ◌≤◌, IfOk, false, map, option_map};
 ghost use Rattle.debugger.specs.declared.conversation.TheConstants.{MOST_READS};
-ghost use Rattle.z80dev_jobs.specs.Debugging.{DebugEnds, DebugEndsBy, IsDebugEnd, IsReadOrNone, IsStartEnd, ReadsDebugged};
+ghost use Rattle.z80dev_jobs.specs.Debugging.{DebugEnds, DebugEndsBy, IsDebugEnd, IsReadOrNone, IsStartEnd, ReadsDebugged, ReadsRecorded, arrivals_in};
 ghost use Rattle.z80dev_jobs.specs.Making.{ended};
 ghost use Rattle.z80dev_jobs.specs.Private.Debugging.{AreSymbols, ReadsOrNone};
 ghost use Rattle.z80dev_jobs.specs.Reading.{reader_of};
@@ -10,13 +10,14 @@ ghost use Rattle.streams.specs.Stream.{Stream};
 ghost use Rattle.z80dev_jobs.specs.World.{world_of};
 
 use crate::dispatch::report_any;
+use crate::playing::recorded_of;
 use crate::reading::{read, read_if_given};
 use crate::running::{Inputs, ready_of};
 use disassembler::{DisassemblyFault, fault_text, read_labels};
 use std::alloc::{AllocError, Global};
 use z80dev::{End, Files, Input, Sink};
 use z80dev_commands::Debugging;
-use z80dev_run::{Broken, DebugFault, StartFault, Symbol};
+use z80dev_run::{Arrival, Broken, DebugFault, Recorded, StartFault, Symbol};
 
 /// The bytes of a file, if its path is given; otherwise no bytes.
 fn read_or_none<'a, F: Files>(
@@ -53,6 +54,31 @@ fn debugged_of<'a, F: Files>(
         list,
         typed,
     })
+}
+
+/// Reads what `debug` needs, and then the record of a session, if its path is given.
+fn recorded_session_of<'a, F: Files>(
+    alloc: Global,
+    job: &Debugging<'a>,
+    files: &mut F,
+) -> Result<(Inputs, Option<Recorded>), End<'a>>
+    ensures { ReadsRecorded job.now (F.folder files.old) (F.folder files.new) result }
+{
+    let inputs = debugged_of(alloc, job, files)?;
+    match recorded_of(alloc, job.replay, files) {
+        Ok(recorded) => Ok((inputs, recorded)),
+        Err(end) => Err(end),
+    }
+}
+
+/// The bytes of a record; without one there are none.
+fn arrivals_in(recorded: &Option<Recorded>) -> &[Arrival]
+    ensures { result.now ≡ arrivals_in recorded.now }
+{
+    match recorded {
+        Some(recorded) => &recorded.arrivals,
+        None => &[],
+    }
 }
 
 /// The symbols of a file of labels, if there is one, or how the command ends because they are refused.
@@ -119,11 +145,13 @@ fn debugged<'a, F: Files, I: Input, W: Sink>(
     ensures ends { (errors : Stream) → DebugEndsBy job.now (world_of (F.folder files.old) (reader_of (I.remaining input.old) (I.failed input.old) (I.reads input.old) (I.interruptions input.old)) (W.stream output.old) errors) (world_of (F.folder files.new) (reader_of (I.remaining input.new) (I.failed input.new) (I.reads input.new) (I.interruptions input.new)) (W.stream output.new) errors) (ended result) }
     ensures reads { I.reads input.new ≤ MOST_READS }
 {
-    let inputs = debugged_of(alloc, job, files)?;
-    let ready = ready_of(alloc, &inputs, &job.words)?;
+    let read = recorded_session_of(alloc, job, files)?;
+    let (inputs, recorded) = (&read.0, &read.1);
+    let ready = ready_of(alloc, inputs, &job.words)?;
     let symbols = symbols_of(alloc, inputs.labels.as_deref())?;
     let listing = inputs.list.as_deref().unwrap_or(&[]);
-    let debugged = ready.debug(alloc, &symbols, listing, input, output);
+    let arrivals = arrivals_in(recorded);
+    let debugged = ready.debug(alloc, arrivals, &symbols, listing, input, output);
     Ok(debug_end(alloc, debugged))
 }
 

@@ -1,7 +1,7 @@
 //! The command `explain`.
 
 ghost use Rattle.std.specs.Prelude.{◌≡◌, length, map, option_map, string_bytes};
-ghost use Rattle.z80dev_jobs.specs.Explaining.{ExplainEnds, Explains, PrintsWith};
+ghost use Rattle.z80dev_jobs.specs.Explaining.{ExplainEnds, Explains, IsAsked, IsFormFor, PrintsWith};
 ghost use Rattle.z80dev_jobs.specs.Making.{effect_of, ended};
 
 use crate::making::sources_of;
@@ -14,7 +14,9 @@ use z80dev_explain::{Asked, Explanation, Form, explain_sources};
 
 /// How an explanation is printed: as JSON if that is asked for; otherwise in colours if that is asked for, or if standard output is a
 /// terminal and nothing else is asked for.
-fn print_form(job: &Explain<'_>, is_terminal: bool) -> Form {
+fn print_form(job: &Explain<'_>, is_terminal: bool) -> Form
+    ensures { IsFormFor job.now.json job.now.color result }
+{
     if job.json {
         return Form::Json;
     }
@@ -24,6 +26,17 @@ fn print_form(job: &Explain<'_>, is_terminal: bool) -> Form {
         _ => is_terminal,
     };
     if colored { Form::Colored } else { Form::Plain }
+}
+
+/// What is asked about sources.
+fn asked_of(job: &Explain<'_>, is_terminal: bool) -> Asked
+    ensures { IsAsked job.now result }
+{
+    Asked {
+        grow: job.grow,
+        jumps: job.jumps,
+        form: print_form(job, is_terminal),
+    }
 }
 
 /// Prints the text of an explanation. Its summary becomes the line of a refusal, since status 1 has a line on standard error with every
@@ -45,7 +58,7 @@ fn print_explanation<W: Sink>(explained: Explanation, output: &mut W) -> End<'st
 fn explain_texts<W: Sink>(
     alloc: Global,
     job: &Explain<'_>,
-    form: Form,
+    is_terminal: bool,
     fronts: &[Vec<u8>],
     texts: &[Vec<u8>],
     output: &mut W,
@@ -60,11 +73,7 @@ fn explain_texts<W: Sink>(
         defines: &job.shared.defines,
         files: &shared_files,
     };
-    let asked = Asked {
-        grow: job.grow,
-        jumps: job.jumps,
-        form,
-    };
+    let asked = asked_of(job, is_terminal);
     let explained = explain_sources(alloc, front, &sources, asked)?;
     Ok(print_explanation(explained, output))
 }
@@ -81,6 +90,5 @@ pub(crate) fn explain_files<'a, F: Files, W: Sink>(
 {
     let fronts = read_all(alloc, &job.shared.files, files)?;
     let texts = read_all(alloc, &job.sources, files)?;
-    let form = print_form(job, is_terminal);
-    explain_texts(alloc, job, form, &fronts, &texts, output)
+    explain_texts(alloc, job, is_terminal, &fronts, &texts, output)
 }

@@ -4,7 +4,7 @@ ghost use Rattle.std.specs.Prelude.{◌≡◌, ◌++◌, ◌==◌, IfOk, map, op
 ghost use Rattle.std.specs.List.{list_any};
 ghost use Rattle.std.specs.Path.{slash};
 ghost use Rattle.std.specs.Str.{bytes_eq};
-ghost use Rattle.z80dev_jobs.specs.Outputs.{base_of, begins_ending, ends_before_name, overwritten, why_not_written, without_ending};
+ghost use Rattle.z80dev_jobs.specs.Outputs.{base_of, begins_ending, ends_before_name, names_program, overwritten, why_not_written, without_ending};
 ghost use Rattle.z80dev_jobs.specs.Private.Steps.{IsClear};
 
 use std::alloc::{AllocError, Global};
@@ -15,6 +15,16 @@ fn has_slash(path: &str) -> bool
     ensures { result ≡ list_any (λ byte. byte == slash) path.now }
 {
     path.as_bytes().iter().any(|byte| *byte == b'/')
+}
+
+/// Whether a path ends as that of a program does. A trace, a profile or a record is not written there: it is likely that its own path was left
+/// out, and that the program's was taken for it.
+pub(crate) fn names_program(path: &str) -> bool
+    ensures { result ≡ names_program path.now }
+{
+    let bytes = path.as_bytes();
+    let at = bytes.len().saturating_sub(4);
+    bytes[at..].eq_ignore_ascii_case(b".com")
 }
 
 /// Whether a path ends where the name of a file begins.

@@ -3,7 +3,7 @@
 ghost use Rattle.std.specs.Prelude.{◌≡◌, ◌≤◌, ℕ, IfOk, List, Vec, false, map, option_map, string_bytes, unwrap_or};
 ghost use Rattle.std.specs.List.{concat};
 ghost use Rattle.z80dev_jobs.specs.Command.{Judging};
-ghost use Rattle.z80dev_jobs.specs.Playing.{EndsPlay, EndsSession, IsSession, KeepsPlayed, PlayEndsWith, ReadsPlayed, ReadsRecord, ReadsSession, Records, ReportsPlay, bad_in_play, bad_record, bad_terminal, codes_named, codes_of, keys_of};
+ghost use Rattle.z80dev_jobs.specs.Playing.{ConcludesPlay, EndsPlay, IsSession, KeepsPlayed, PlayEndsWith, ReadsPlayed, ReadsRecord, ReadsSession, Records, ReportsPlay, bad_in_play, bad_record, bad_terminal, codes_named, codes_of, keys_of};
 ghost use Rattle.z80dev_run.specs.Program.{IsReadyToRun};
 ghost use Rattle.z80dev_jobs.specs.Private.Images.{IsFreeOf};
 ghost use Rattle.z80dev_jobs.specs.Reading.{reader_of};
@@ -12,8 +12,9 @@ ghost use Rattle.z80dev_run.specs.declared.desk.TheConstants.{MOST_LISTENS};
 
 use crate::disks::Image;
 use crate::host::{Ended, Host};
+use crate::outputs::names_program;
 use crate::reading::read;
-use crate::running::{Inputs, claim_disk, keep_disk, ready_of, warn_after};
+use crate::running::{Inputs, claim_disk, keep_disk, ready_of, report_written};
 use crate::values::refuse_value;
 use screen_codes::Codes;
 use std::alloc::{AllocError, Global};
@@ -62,7 +63,7 @@ fn bad_terminal(alloc: Global, word: Option<&str>) -> Result<Option<String>, All
     }
 }
 
-/// Answers with which text a record is refused that has the path of the program or of the image.
+/// Answers with which text a record is refused that has the path of a file that is read, or that of another program.
 fn bad_record(
     alloc: Global,
     job: &Play<'_>,
@@ -77,7 +78,11 @@ fn bad_record(
         Some(disk) => path == disk,
         None => false,
     };
-    if path == job.program || is_image {
+    let is_replayed = match job.replay {
+        Some(replayed) => path == replayed,
+        None => false,
+    };
+    if path == job.program || is_image || is_replayed || names_program(path) {
         return Ok(Some(format!(in alloc; "Overwrites({path})")?));
     }
     Ok(None)
@@ -110,7 +115,7 @@ fn played_of<'a, F: Files>(alloc: Global, job: &Play<'a>, files: &mut F) -> Resu
 }
 
 /// Reads the record of an earlier session, if there is a path for one.
-fn recorded_of<'a, F: Files>(
+pub(crate) fn recorded_of<'a, F: Files>(
     alloc: Global,
     path: Option<&'a str>,
     files: &mut F,
@@ -181,46 +186,39 @@ fn record<'a, F: Files>(
     }
 }
 
-/// Keeps the image that a session leaves, then writes the session.
+/// Keeps the image that a session leaves, then writes the session. Answers how the second ended, if the first is done.
 fn keep_played<'a, F: Files>(
     alloc: Global,
     job: &Play<'a>,
     bytes: &[u8],
     played: &PlayedRan,
     files: &mut F,
-) -> Result<(), End<'a>>
+) -> Result<Result<(), End<'a>>, End<'a>>
     requires free { IsFreeOf job.now.disk (F.folder files.old) }
     ensures { KeepsPlayed job.now bytes.now (concat played.now.image) played.now.arrivals.items played.now.turns (F.folder files.old) (F.folder files.new) result }
 {
     keep_disk(job.disk, bytes, played.image_bytes(), files)?;
-    record(alloc, job.record, &played.arrivals, played.turns, files)
+    Ok(record(alloc, job.record, &played.arrivals, played.turns, files))
 }
 
 /// Reports why a session ended, and gives the exit status.
-fn end_session<E: Sink>(
-    alloc: Global,
-    lines: &Option<String>,
-    end: PlayEnd,
-    pc: u16,
-    errors: &mut E,
-) -> u8
-    ensures { EndsSession (option_map string_bytes lines.now) end pc (E.stream errors.old) (E.stream errors.new) result }
+fn conclude_play<E: Sink>(alloc: Global, end: PlayEnd, pc: u16, errors: &mut E) -> u8
+    ensures { ConcludesPlay end pc (E.stream errors.old) (E.stream errors.new) result }
 {
-    let status = match end {
+    match end {
         PlayEnd::Run(why) => conclude(alloc, why, pc, errors),
         PlayEnd::Left => DONE,
-        PlayEnd::Failed => return report(&End::Stream, errors),
-        PlayEnd::NoMemory => return report(&End::NoMemory, errors),
-    };
-    warn_after(lines, status, errors);
-    status
+        PlayEnd::Failed => report(&End::Stream, errors),
+        PlayEnd::NoMemory => report(&End::NoMemory, errors),
+    }
 }
 
-/// Reports that a file could not be written, or why a session ended. Gives the exit status.
+/// Reports that the image could not be written; or why the session ended, and then whether the session could be written. Gives the exit
+/// status.
 fn report_play<E: Sink>(
     alloc: Global,
     lines: &Option<String>,
-    kept: Result<(), End<'_>>,
+    kept: Result<Result<(), End<'_>>, End<'_>>,
     end: PlayEnd,
     pc: u16,
     errors: &mut E,
@@ -228,7 +226,10 @@ fn report_play<E: Sink>(
     ensures { ReportsPlay (option_map string_bytes lines.now) kept.entry end pc (E.stream errors.old) (E.stream errors.new) result }
 {
     match kept {
-        Ok(()) => end_session(alloc, lines, end, pc, errors),
+        Ok(written) => {
+            let status = conclude_play(alloc, end, pc, errors);
+            report_written(lines, written, status, errors)
+        }
         Err(end) => report(&end, errors),
     }
 }

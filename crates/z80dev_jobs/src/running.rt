@@ -195,7 +195,7 @@ fn put_told<E: Sink>(told: &Option<Told>, errors: &mut E)
 
 /// Reports the end of what comes after the lines of a run: nothing more, with the status of the run and the lines that warn; or that a file
 /// could not be written. Gives the exit status.
-fn report_written<E: Sink>(
+pub(crate) fn report_written<E: Sink>(
     lines: &Option<String>,
     written: Result<(), End<'_>>,
     status: u8,

@@ -4,10 +4,11 @@ ghost use Rattle.std.specs.Prelude.{◌≡◌, IfOk, IfSome, List, option_map, �
 ghost use Rattle.std.specs.List.{concat};
 ghost use Rattle.z80dev_jobs.specs.Private.Steps.{MayTell};
 ghost use Rattle.z80dev_jobs.specs.Private.Telling.{IsLabelled};
-ghost use Rattle.z80dev_jobs.specs.Telling.{AreLastLines, IsFileIfGiven, IsNothingTold, IsProfileOf, IsToldOf, IsToldRun, WritesFile, WritesTold, is_given, is_silent, is_wrong, last_count, profile_over, reads_file, registers_lines, trace_over, unused, why_not_told, wish_of};
+ghost use Rattle.z80dev_jobs.specs.Telling.{AreLastLines, IsFileIfGiven, IsNothingTold, IsProfileOf, IsToldOf, IsToldRun, WritesFile, WritesTold, is_given, is_kept, is_silent, is_wrong, last_count, profile_over, reads_file, registers_lines, trace_over, unused, why_not_told, wish_of};
 ghost use Rattle.z80dev_run.specs.Program.{IsRan, IsReadyToRun};
 ghost use Rattle.z80dev_run.specs.Reports.{IsTraceFile};
 
+use crate::outputs::names_program;
 use disassembler::{DisassemblyFault, fault_text, read_labels};
 use std::alloc::{AllocError, Global};
 use z80_cpu::Cpu;
@@ -97,22 +98,29 @@ fn reads_file(run: &Run<'_>, path: &str) -> bool
         || is_given(path, run.telling.list)
 }
 
-/// The path of the trace, if the run reads a file of that path.
+/// Whether a run writes no file of this path: it reads it, or it is that of a program.
+fn is_kept(run: &Run<'_>, path: &str) -> bool
+    ensures { result ≡ is_kept run.now path.now }
+{
+    reads_file(run, path) || names_program(path)
+}
+
+/// The path of the trace, if it may not be written there.
 fn trace_over<'a>(run: &Run<'a>) -> Option<&'a str>
     ensures { option_map (λ path. path.now) result ≡ trace_over run.now run.now.telling.trace }
 {
     match run.telling.trace {
-        Some(path) if reads_file(run, path) => Some(path),
+        Some(path) if is_kept(run, path) => Some(path),
         _ => None,
     }
 }
 
-/// The path of the profile, if the run reads a file of that path, or writes its trace there.
+/// The path of the profile, if it may not be written there, or if the run writes its trace there.
 fn profile_over<'a>(run: &Run<'a>) -> Option<&'a str>
     ensures { option_map (λ path. path.now) result ≡ profile_over run.now run.now.telling.profile }
 {
     match run.telling.profile {
-        Some(path) if reads_file(run, path) || is_given(path, run.telling.trace) => Some(path),
+        Some(path) if is_kept(run, path) || is_given(path, run.telling.trace) => Some(path),
         _ => None,
     }
 }

@@ -25,4 +25,6 @@ jumps_of (Err fault) = None
 
 -- how the jumps are printed: each short jump saves a byte, compared with a program whose jumps are all long
 abbrev pub jumps_text : Jumps → List ℕ
-jumps_text jumps = decimal jumps.short ++ (codes " jumps short, " ++ (decimal jumps.long ++ (codes " long, " ++ (decimal jumps.short ++ codes " bytes saved"))))
+jumps_text jumps =
+    decimal jumps.short ++ (codes " " ++ ((if jumps.short == 1 then codes "jump" else codes "jumps") ++ (codes " short, " ++ (decimal jumps.long
+    ++ (codes " long, " ++ (decimal jumps.short ++ (codes " " ++ ((if jumps.short == 1 then codes "byte" else codes "bytes") ++ codes " saved"))))))))

@@ -25,7 +25,12 @@ impl fmt::Display for Jumps {
     fn fmt<W: fmt::Write>(&self, f: &mut fmt::Formatter<W>) -> fmt::Result {
         let short = self.short;
         let long = self.long;
-        write!(f, "{short} jumps short, {long} long, {short} bytes saved")
+        let jumps = if short == 1 { "jump" } else { "jumps" };
+        let bytes = if short == 1 { "byte" } else { "bytes" };
+        write!(
+            f,
+            "{short} {jumps} short, {long} long, {short} {bytes} saved"
+        )
     }
 }
 

@@ -3,3 +3,5 @@ mod Read
 mod Told
 mod Traced
 mod Totals
+mod Leaving
+mod Printed

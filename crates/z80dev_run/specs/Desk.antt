@@ -1,34 +1,27 @@
 -- Somebody at standard input and standard output.
-use Rattle.std.specs.Prelude.{ℕ, ◌==◌, ◌&&◌, ◌||◌, Bool, false, true, List, [], ◌∷◌, Option, None, if◌then◌else◌, length, map, option_map}
+use Rattle.std.specs.Prelude.{ℕ, ◌==◌, ◌&&◌, ◌||◌, Bool, false, List, [], ◌∷◌, Option, if◌then◌else◌, map, option_map}
+use Rattle.std.specs.Io.KnownBytes.{append_known}
 use Rattle.cpm_run.specs.Seat.{Seat}
-use Rattle.cpm_run.specs.declared.station.Came.{Came}
-use Rattle.cpm_run.specs.declared.station.Came.TheVariants as came
+use Rattle.screen_codes.specs.Codes.{screen_text}
+use Rattle.screen_codes.specs.declared.codes.Codes.{Codes}
+use Rattle.screen_codes.specs.declared.codes.Codes.TheVariants.{Plain}
+use Rattle.screen_codes.specs.declared.codes.Pending.{Pending}
+use Rattle.screen_codes.specs.declared.screen.Screen.{Screen}
 use Rattle.z80dev_run.specs.declared.desk.Keys.{Keys}
 use Rattle.z80dev_run.specs.declared.desk.Keys.TheVariants as keys
-use Rattle.screen_codes.specs.declared.codes.Codes.{Codes}
-use Rattle.screen_codes.specs.declared.codes.Codes.TheVariants.{Plain, Adm3a, Vt52}
-use Rattle.screen_codes.specs.declared.screen.Screen.{Screen}
 
--- Standard input, standard output, and the screen that output is shown on; how keys come; whether the last key is the first half of leaving;
--- and whether the person has left.
+-- Standard input, standard output, and the screen that output is shown on; how keys come; and whether the last key is the first half of leaving.
 pub record DeskState (I S : Type 0) : Type 0 where
   pub input : I
   pub output : S
   pub screen : Screen
   pub keys : Keys
   pub is_leaving : Bool
-  pub left : Bool
 
--- What is known of the bytes that a program has shown, given what is known of the output. Codes that are changed on the way tell nothing.
-abbrev pub known_shown : Codes → Option (List ℕ) → Option (List ℕ)
-known_shown Plain known = known
-known_shown Adm3a known = None
-known_shown Vt52 known = None
-
--- the key Ctrl-\ is pressed twice, given whether it was the last key before these
-abbrev pub has_left : Bool → List ℕ → Bool
-has_left was [] = false
-has_left was (byte ∷ bytes) = (was && (byte == 0x1C)) || has_left (byte == 0x1C) bytes
+-- What is printed for bytes that a program puts, given what those before them have begun. Without screen codes it is these bytes.
+abbrev pub printed_for : Codes → Pending → List ℕ → List ℕ
+printed_for Plain pending bytes = bytes
+printed_for whose pending bytes = screen_text whose pending bytes
 
 -- a key of a line: LF is the key RETURN
 abbrev pub line_key : ℕ → ℕ
@@ -39,16 +32,17 @@ abbrev pub as_keys : Keys → List ℕ → List ℕ
 as_keys keys.Raw bytes = bytes
 as_keys keys.Lines bytes = map line_key bytes
 
--- what bytes that were read mean, given whether the last key before them is the first half of leaving
-abbrev pub came_of : Keys → Bool → List ℕ → Came
-came_of keys.Raw was bytes = if has_left was bytes then came.Leave else came.Bytes (length bytes)
-came_of keys.Lines was bytes = came.Bytes (length bytes)
+-- the key Ctrl-\ is pressed twice, given whether it was the last key before these
+abbrev pub has_left : Bool → List ℕ → Bool
+has_left was [] = false
+has_left was (byte ∷ bytes) = (was && (byte == 0x1C)) || has_left (byte == 0x1C) bytes
 
--- the person has left with this
-abbrev pub is_leave : Came → Bool
-is_leave came.Leave = true
-is_leave other = false
+-- A person leaves by these keys. Nobody leaves by lines.
+abbrev pub leaves_by : Keys → Bool → List ℕ → Bool
+leaves_by keys.Raw is_leaving bytes = has_left is_leaving bytes
+leaves_by keys.Lines is_leaving bytes = false
 
--- somebody at these streams, given what is known of them
-abbrev pub seat_of : Codes → Keys → Bool → Option (List ℕ) → Option (List ℕ) → Seat
-seat_of codes keys left input output = record { shown = known_shown codes output; coming = option_map (as_keys keys) input; left = left }
+-- Somebody at these streams: whose screen codes are shown, and what the bytes so far have begun; how keys come, and whether the last key is the
+-- first half of leaving; and what is known of input and of output.
+abbrev pub seat_of : Codes → Pending → Keys → Bool → Option (List ℕ) → Option (List ℕ) → Seat
+seat_of whose pending keys is_leaving input output = record { screen = λ bytes. append_known output (printed_for whose pending bytes); coming = option_map (as_keys keys) input; leaves = leaves_by keys is_leaving }

@@ -42,10 +42,11 @@ IsTracedRan file words image input before steps wish end turns state kept =
     (disk : Mounted Image) × IsMounted image (Ok disk)
     × IsTraced (λ sectors. sectors) (λ sectors. 0) (λ dialog. dialog) file words disk (dialog_of (typed input) before.bytes before.failures) steps wish end turns state kept
 
--- The program was debugged with its words on the disk with this image, with what is typed and with these labels; and the answers were printed.
-abbrev pub IsDebuggedRun : List ℕ → List (List ℕ) → List ℕ → List ℕ → List (ℕ × List ℕ) → List ℕ → Stream → Stream → Type 0
-IsDebuggedRun file words image input labels listing before after =
-    (disk : Mounted Image) × IsMounted image (Ok disk) × DebugsTo file words disk (typed input) (record { labels = labels; size = length file }) listing before after
+-- The program was debugged with its words on the disk with this image, with what is typed before the start, with the bytes that come later and with
+-- these labels. The commands are the lines of a reader: before the session it had `from` to give, and after it `left`. The answers were printed.
+abbrev pub IsDebuggedRun : List ℕ → List (List ℕ) → List ℕ → List ℕ → List Arrival → List (ℕ × List ℕ) → List ℕ → Option (List ℕ) → Option (List ℕ) → Stream → Stream → Type 0
+IsDebuggedRun file words image input recorded labels listing from left before after =
+    (disk : Mounted Image) × IsMounted image (Ok disk) × DebugsTo file words disk (typed input) recorded (record { labels = labels; size = length file }) listing from left before after
 
 -- The program was played with its words on the disk with this image, at a keyboard and a screen: why the session ended, after how many steps and
 -- with which PC, the image of the disk then, and the bytes that came.

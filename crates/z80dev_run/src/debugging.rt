@@ -7,13 +7,15 @@ ghost use Rattle.debugger.specs.Labelled.{symbol_parts};
 ghost use Rattle.z80dev_run.specs.Program.{IsDebuggedRun, IsReadyToRun};
 
 use crate::running::Ready;
+use cpm_run::Arrival;
 use debugger::{DebugFault, Program, Symbol};
 use std::alloc::Global;
 use streams::{Input, Sink};
 
 impl Ready<'_, '_> {
-    /// Debugs the program: reads commands, a line each, and prints each answer before more is read. An address may be given and is printed
-    /// by its symbol; `where` shows its line of the listing, unless that is empty. The disk is not kept.
+    /// Debugs the program: reads commands, a line each, and prints each answer before more is read. The bytes of a record come after their
+    /// numbers of steps; there may be none. An address may be given and is printed by its symbol; `where` shows its line of the listing, unless
+    /// that is empty. The disk is not kept.
     ///
     /// # Errors
     ///
@@ -21,6 +23,7 @@ impl Ready<'_, '_> {
     pub fn debug<I: Input, O: Sink>(
         self,
         alloc: Global,
+        recorded: &[Arrival],
         symbols: &[Symbol<'_>],
         listing: &[u8],
         commands: &mut I,
@@ -32,7 +35,7 @@ impl Ready<'_, '_> {
             → Debugs program words (O.stream output.old) (O.stream output.new) (I.failed commands.new) (I.reads commands.new) result }
         ensures reads { I.reads commands.new ≤ MOST_READS }
         ensures debugged { (program : List ℕ) (words : List (List ℕ)) (image input : List ℕ) → IsReadyToRun program words image input self.entry
-            → IfOk result (λ _. IsDebuggedRun program words image input (map symbol_parts symbols.now) listing.now (O.stream output.old) (O.stream output.new)) }
+            → IfOk result (λ _. IsDebuggedRun program words image input recorded.now (map symbol_parts symbols.now) listing.now (I.remaining commands.old) (I.remaining commands.new) (O.stream output.old) (O.stream output.new)) }
     {
         let Ready {
             program: file,
@@ -45,6 +48,7 @@ impl Ready<'_, '_> {
             words: &words,
             disk,
             typed,
+            recorded,
             listing,
         };
         debugger::debug(alloc, program, symbols, commands, output)

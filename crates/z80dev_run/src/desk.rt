@@ -1,8 +1,10 @@
 //! Somebody at standard input and standard output.
 
-ghost use Rattle.std.specs.Prelude.{◌≡◌, ◌≤◌, EachIndex, ◌||◌, false, slice_index};
+ghost use Rattle.std.specs.Prelude.{◌≡◌, ◌<◌, ◌≤◌, ◌≢◌, ◌++◌, ℕ, List, EachIndex, false, if◌then◌else◌, length, slice_index};
 ghost use Rattle.cpm_run.specs.Seat.{Listens};
-ghost use Rattle.z80dev_run.specs.Desk.{as_keys, has_left, came_of, is_leave, line_key, seat_of};
+ghost use Rattle.cpm_run.specs.declared.station.Came.TheVariants as came;
+ghost use Rattle.screen_codes.specs.declared.codes.Pending.TheVariants.{Nothing};
+ghost use Rattle.z80dev_run.specs.Desk.{as_keys, has_left, leaves_by, line_key, seat_of};
 ghost use Rattle.z80dev_run.specs.declared.desk.TheConstants.{MOST_LISTENS};
 
 use cpm_run::{Came, Patience, Station, StationFault};
@@ -41,6 +43,17 @@ pub enum Keys {
     Lines,
 }
 
+/// What is known of standard input.
+#[derive(Clone, Copy)]
+enum InputState {
+    /// It can be read.
+    Open,
+    /// Nothing is left.
+    Ended,
+    /// A read has failed.
+    Failed,
+}
+
 /// Standard input and standard output, with the terminal for which the program was made.
 #[derive(Drop)]
 pub struct Desk<I: Input, S: Sink> {
@@ -52,8 +65,7 @@ pub struct Desk<I: Input, S: Sink> {
     text: Vec<u8>,
     /// How often standard input was read.
     reads: u64,
-    /// Whether it can be read again.
-    is_open: bool,
+    state: InputState,
     /// How many steps were made before the last look.
     looked: u64,
     /// How many steps were made before the last read.
@@ -62,20 +74,20 @@ pub struct Desk<I: Input, S: Sink> {
     is_busy: bool,
     /// Whether the last key is the first half of leaving.
     is_leaving: bool,
-    /// Whether the person has left.
-    left: bool,
 }
 
 impl<I: Input, S: Sink> Model for Desk<I, S> {
-    ghost use Rattle.std.specs.Prelude.{◌≡◌, ◌≤◌, false, true};
+    ghost use Rattle.std.specs.Io.KnownBytes.{IsAtEnd};
+    ghost use Rattle.std.specs.Prelude.{◌≡◌, ◌≤◌, false};
     ghost use Rattle.z80dev_run.specs.Desk.{DeskState};
+    ghost use Rattle.z80dev_run.specs.declared.desk.InputState.TheVariants.{Open, Ended};
     ghost use Rattle.z80dev_run.specs.declared.desk.TheConstants.{MOST_LISTENS};
 
     ghost Value = { DeskState I S };
 
-    ghost view = { λ d. record { input = d.input; output = d.output; screen = d.screen; keys = d.keys; is_leaving = d.is_leaving; left = d.left } };
+    ghost view = { λ d. record { input = d.input; output = d.output; screen = d.screen; keys = d.keys; is_leaving = d.is_leaving } };
 
-    ghost invariant = { λ d. (d.is_open ≡ true → I.failed d.input ≡ false) × (I.reads d.input ≡ d.reads) × (d.reads ≤ MOST_LISTENS) };
+    ghost invariant = { λ d. (d.state ≡ Open → I.failed d.input ≡ false) × (d.state ≡ Ended → IsAtEnd (I.remaining d.input)) × (I.reads d.input ≡ d.reads) × (d.reads ≤ MOST_LISTENS) };
 }
 
 /// Whether the key Ctrl-\ is pressed twice, given whether it was the last key before these.
@@ -115,9 +127,9 @@ impl<I: Input, S: Sink> Desk<I, S> {
         requires unread { I.reads input ≡ 0 }
         ensures input { result.input ≡ input }
         ensures output { result.output ≡ output }
-        ensures codes { result.screen.codes ≡ codes }
+        ensures screen { result.screen ≡ record { codes = codes; pending = Nothing } }
         ensures keys { result.keys ≡ keys }
-        ensures left { result.left ≡ false }
+        ensures half { result.is_leaving ≡ false }
     {
         Desk {
             input,
@@ -126,12 +138,11 @@ impl<I: Input, S: Sink> Desk<I, S> {
             keys,
             text: Vec::new(alloc),
             reads: 0,
-            is_open: true,
+            state: InputState::Open,
             looked: 0,
             heard: 0,
             is_busy: true,
             is_leaving: false,
-            left: false,
         }
     }
 
@@ -144,13 +155,15 @@ impl<I: Input, S: Sink> Desk<I, S> {
         (self.input, self.output)
     }
 
-    /// Whether the keyboard is to be looked at now. A look may last until a line comes if keys come by lines, so then the program has to be
-    /// idle, or to have been busy for long.
+    /// Whether the keyboard is to be looked at now. A look may last until a line comes if keys come by lines. So then nobody looks for a person
+    /// who wants to leave, which lines cannot say, and if the program asks for keys, it has to be idle, or to have been busy for long.
     fn is_due(&mut self, turns: u64, patience: Patience) -> bool
         ensures { self.new ≡ self.old }
     {
-        if patience == Patience::Wait {
-            return true;
+        match patience {
+            Patience::Wait => return true,
+            Patience::Glance if self.keys == Keys::Lines => return false,
+            Patience::Glance | Patience::Poll => {}
         }
         let since = turns.saturating_sub(self.heard);
         if self.keys == Keys::Lines && self.is_busy && since < LONGEST_BUSY {
@@ -165,8 +178,8 @@ impl<I: Input, S: Sink> Desk<I, S> {
     /// What bytes that were read mean. Those of lines become keys.
     fn hear(&mut self, bytes: &mut [u8]) -> Came
         ensures bytes { bytes.new ≡ as_keys self.old.keys bytes.old }
-        ensures came { result ≡ came_of self.old.keys self.old.is_leaving bytes.old }
-        ensures left { self.new.left ≡ (self.old.left || is_leave result) }
+        ensures came { result ≡ (if leaves_by self.old.keys self.old.is_leaving bytes.old then came.Leave else came.Bytes (length bytes.old)) }
+        ensures leaves { result ≢ came.Leave → (more : List ℕ) → leaves_by self.new.keys self.new.is_leaving more ≡ leaves_by self.old.keys self.old.is_leaving (bytes.old ++ more) }
         ensures input { self.new.input ≡ self.old.input }
         ensures output { self.new.output ≡ self.old.output }
         ensures screen { self.new.screen ≡ self.old.screen }
@@ -177,25 +190,32 @@ impl<I: Input, S: Sink> Desk<I, S> {
             return Came::Bytes(bytes.len());
         }
         if has_left(self.is_leaving, bytes) {
-            self.left = true;
             return Came::Leave;
         }
-        self.is_leaving = bytes.last() == Some(&LEAVE);
+        if let Some(last) = bytes.last() {
+            self.is_leaving = *last == LEAVE;
+        }
         Came::Bytes(bytes.len())
     }
 
     /// Reads standard input once.
     fn look(&mut self, buffer: &mut [u8]) -> Result<Came, StationFault>
-        ensures { Listens (seat_of self.old.screen.codes self.old.keys self.old.left (I.remaining self.old.input) (S.stream self.old.output).bytes) (seat_of self.new.screen.codes self.new.keys self.new.left (I.remaining self.new.input) (S.stream self.new.output).bytes) result buffer.new }
+        requires room { 0 < length buffer.old }
+        ensures { Listens (seat_of self.old.screen.codes self.old.screen.pending self.old.keys self.old.is_leaving (I.remaining self.old.input) (S.stream self.old.output).bytes) (seat_of self.new.screen.codes self.new.screen.pending self.new.keys self.new.is_leaving (I.remaining self.new.input) (S.stream self.new.output).bytes) result buffer.new }
     {
-        if !self.is_open || self.reads == MOST_LISTENS {
-            return Ok(Came::End);
+        match self.state {
+            InputState::Ended => return Ok(Came::End),
+            InputState::Failed => return Err(StationFault),
+            InputState::Open => {}
+        }
+        if self.reads == MOST_LISTENS {
+            return Err(StationFault);
         }
         self.reads += 1;
         match self.input.read(buffer) {
             Ok(0) if self.keys == Keys::Raw => Ok(Came::Bytes(0)),
             Ok(0) => {
-                self.is_open = false;
+                self.state = InputState::Ended;
                 Ok(Came::End)
             }
             Ok(count) => {
@@ -204,7 +224,7 @@ impl<I: Input, S: Sink> Desk<I, S> {
             }
             Err(ReadFault::Interrupted) => Ok(Came::Bytes(0)),
             Err(ReadFault::Failed) => {
-                self.is_open = false;
+                self.state = InputState::Failed;
                 Err(StationFault)
             }
         }
@@ -214,7 +234,7 @@ impl<I: Input, S: Sink> Desk<I, S> {
 impl<I: Input, S: Sink> Station for Desk<I, S> {
     ghost use Rattle.z80dev_run.specs.Desk.{seat_of};
 
-    ghost seat = { λ d. seat_of d.screen.codes d.keys d.left (I.remaining d.input) (S.stream d.output).bytes };
+    ghost seat = { λ d. seat_of d.screen.codes d.screen.pending d.keys d.is_leaving (I.remaining d.input) (S.stream d.output).bytes };
 
     fn listen(
         &mut self,
@@ -222,7 +242,8 @@ impl<I: Input, S: Sink> Station for Desk<I, S> {
         patience: Patience,
         buffer: &mut [u8],
     ) -> Result<Came, StationFault> {
-        if !self.is_due(turns, patience) {
+        // A read into a buffer without room gives nothing, which would look like the end of the input.
+        if buffer.is_empty() || !self.is_due(turns, patience) {
             return Ok(Came::Bytes(0));
         }
         self.looked = turns;

@@ -1,13 +1,13 @@
 -- A session as the code keeps it.
-use Rattle.std.specs.Prelude.{◌≡◌, ◌<◌, ◌≤◌, ◌++◌, ℕ, Bool, true, false, map, List, [], Option, None, Some, Result, Ok, Err}
-use Rattle.std.specs.Io.KnownBytes.{Appends, Consumes}
+use Rattle.std.specs.Prelude.{◌≡◌, ◌<◌, ◌≤◌, ◌+◌, ◌++◌, ℕ, Bool, true, false, List, [], Option, None, Some, Result, Ok, Err}
+use Rattle.std.specs.Io.KnownBytes.{Consumes, IsAtEnd, Keeps}
 use Rattle.z80_cpu.specs.State.{machine}
 use Rattle.cpm_disk.specs.Image.{Image}
 use Rattle.cpm_run.specs.declared.ending.Why.{Why}
 use Rattle.cpm_run.specs.declared.arriving.PlayEnd.{PlayEnd}
 use Rattle.cpm_run.specs.declared.arriving.PlayEnd.TheVariants as play
 use Rattle.cpm_run.specs.declared.playing.state.Playing.{Playing}
-use Rattle.cpm_run.specs.Play.{EndsBy, IsEcho, PlayState, PlaysOn, PlayedRunEnds, arrived}
+use Rattle.cpm_run.specs.Play.{Arrives, CameBefore, EndsBy, IsEcho, PlayState, PlaysOn, PlayedRunEnds, arrived, arrival_bytes}
 use Rattle.cpm_run.specs.declared.arriving.Arrival.{Arrival}
 use Rattle.cpm_run.specs.Seat.{Seat}
 use Rattle.cpm_run.specs.Turns.{is_finished}
@@ -21,28 +21,44 @@ abbrev pub Went : {S : Type 0} → (S → Image) → (S → ℕ) → Option Why 
 Went sectors faults None start new = PlaysOn sectors faults start new
 Went sectors faults (Some end) start new = EndsBy sectors faults start end new
 
--- the bytes of those that arrived
-abbrev pub bytes_of : List Arrival → List ℕ
-bytes_of arrivals = map (λ arrival. arrival.byte) arrivals
+-- The screen has got the bytes that were shown, and those that were shown ahead.
+abbrev pub HasShown : Seat → Seat → List ℕ → List ℕ → Type 0
+HasShown before after shown ahead = (more : List ℕ) → Keeps (before.screen (shown ++ ahead ++ more)) (after.screen more)
+
+-- All keys that came have arrived. The person has not left by them, and leaves by later keys as before by all of them. If the keyboard has said
+-- that no key will come, none is left.
+pub record HasHeard (before after : Seat) (arrivals : List Arrival) (ended : Bool) : Type 0 where
+  pub coming : Consumes before.coming after.coming (arrival_bytes arrivals)
+  pub stays : before.leaves [] ≡ false → before.leaves (arrival_bytes arrivals) ≡ false
+  pub leaves : (more : List ℕ) → after.leaves more ≡ before.leaves (arrival_bytes arrivals ++ more)
+  pub end : ended ≡ true → IsAtEnd after.coming
+
+-- the person left by the last keys that came, which did not arrive
+abbrev pub IsLeftBy : Seat → Seat → List Arrival → Type 0
+IsLeftBy before after arrivals = (last : List ℕ) × Consumes before.coming after.coming (arrival_bytes arrivals ++ last) × (before.leaves (arrival_bytes arrivals ++ last) ≡ true)
+
+-- nothing happened to the keyboard
+pub record IsUnasked (old new : Seat) : Type 0 where
+  pub coming : new.coming ≡ old.coming
+  pub leaves : new.leaves ≡ old.leaves
 
 -- The session so far: the screen has what was shown, and the bytes that were shown ahead.
 pub record Stands {S : Type 0} (sectors : S → Image) (faults : S → ℕ) (start : PlayState S) (before : Seat) (p : Playing S) (after : Seat) : Type 0 where
   pub shown : List ℕ
   pub plays : PlaysOn sectors faults start (state_of p shown)
-  pub seen : Appends before.shown after.shown (shown ++ p.ahead.items)
-  pub left : after.left ≡ before.left
+  pub seen : HasShown before after shown p.ahead.items
 
 -- the same, and what arrived came from the keyboard
 pub record SoFar {S : Type 0} (sectors : S → Image) (faults : S → ℕ) (start : PlayState S) (before : Seat) (p : Playing S) (after : Seat) : Type 0 where
   pub stands : Stands sectors faults start before p after
-  pub came : Consumes before.coming after.coming (bytes_of p.arrivals.items)
+  pub heard : HasHeard before after p.arrivals.items p.ended
+  pub time : CameBefore (p.turns + 1) p.arrivals.items
 
 -- the session after a last step, or with the limit reached
 pub record IsOver {S : Type 0} (sectors : S → Image) (faults : S → ℕ) (limit : ℕ) (start : PlayState S) (end : Why) (before : Seat) (p : Playing S) (after : Seat) : Type 0 where
   pub shown : List ℕ
   pub ends : PlayedRunEnds sectors faults limit start end (state_of p shown)
-  pub seen : Appends before.shown after.shown (shown ++ p.ahead.items)
-  pub left : after.left ≡ before.left
+  pub seen : HasShown before after shown p.ahead.items
 
 -- The next step is still to be made.
 pub record IsBetween {S : Type 0} (limit : ℕ) (p : Playing S) : Type 0 where
@@ -61,9 +77,10 @@ pub record IsLeft {S : Type 0} (sectors : S → Image) (faults : S → ℕ) (lim
   pub plays : PlaysOn sectors faults start (state_of p shown)
   pub next : IsBetween limit p
   pub all : p.bdos.terminal.console.output ≡ Some []
-  pub seen : Appends before.shown after.shown (shown ++ p.ahead.items)
+  pub seen : HasShown before after shown p.ahead.items
   pub echo : IsEcho (state_of p shown).run p.ahead.items
-  pub left : after.left ≡ true
+  pub arrives : Arrives before p.arrivals.items
+  pub left : IsLeftBy before after p.arrivals.items
 
 -- the session in which memory ran out
 pub record IsShort {S : Type 0} (sectors : S → Image) (faults : S → ℕ) (limit : ℕ) (start : PlayState S) (before : Seat) (p : Playing S) (after : Seat) : Type 0 where
@@ -71,19 +88,18 @@ pub record IsShort {S : Type 0} (sectors : S → Image) (faults : S → ℕ) (li
   pub plays : PlaysOn sectors faults start (state_of p shown)
   pub next : IsBetween limit p
   pub all : p.bdos.terminal.console.output ≡ Some []
-  pub seen : Appends before.shown after.shown (shown ++ p.ahead.items)
-  pub left : after.left ≡ before.left
+  pub seen : HasShown before after shown p.ahead.items
+  pub arrives : Arrives before p.arrivals.items
 
 -- the session in which the keyboard or the screen failed
-pub record IsBroken {S : Type 0} (sectors : S → Image) (faults : S → ℕ) (start : PlayState S) (before : Seat) (p : Playing S) (after : Seat) : Type 0 where
+pub record IsBroken {S : Type 0} (sectors : S → Image) (faults : S → ℕ) (start : PlayState S) (p : Playing S) : Type 0 where
   pub shown : List ℕ
   pub plays : PlaysOn sectors faults start (state_of p shown)
-  pub left : after.left ≡ before.left
 
 -- the session after a call that ended it
 abbrev pub Ends : {S : Type 0} → (S → Image) → (S → ℕ) → ℕ → PlayEnd → PlayState S → Seat → Playing S → Seat → Type 0
-Ends sectors faults limit (play.Run end) start before p after = IsOver sectors faults limit start end before p after × Consumes before.coming after.coming (bytes_of p.arrivals.items)
-Ends sectors faults limit play.Failed start before p after = IsBroken sectors faults start before p after
+Ends sectors faults limit (play.Run end) start before p after = IsOver sectors faults limit start end before p after × HasHeard before after p.arrivals.items p.ended × CameBefore p.turns p.arrivals.items
+Ends sectors faults limit play.Failed start before p after = IsBroken sectors faults start p × Arrives before p.arrivals.items
 Ends sectors faults limit play.Left start before p after = IsLeft sectors faults limit start before p after
 Ends sectors faults limit play.NoMemory start before p after = IsShort sectors faults limit start before p after
 
@@ -92,10 +108,19 @@ abbrev pub Continues : {A : Type 0} {S : Type 0} → (S → Image) → (S → �
 Continues sectors faults limit (Ok done) start before p after = SoFar sectors faults start before p after
 Continues sectors faults limit (Err end) start before p after = Ends sectors faults limit end start before p after
 
+-- the session between two steps, before the keyboard is asked
+abbrev pub Begins : {S : Type 0} → (S → Image) → (S → ℕ) → PlayState S → Seat → Playing S → Seat → Type 0
+Begins sectors faults start before p after = SoFar sectors faults start before p after × CameBefore p.turns p.arrivals.items
+
+-- the session after steps that may end it
+abbrev pub GoesRound : {A : Type 0} {S : Type 0} → (S → Image) → (S → ℕ) → ℕ → Result A PlayEnd → PlayState S → Seat → Playing S → Seat → Type 0
+GoesRound sectors faults limit (Ok done) start before p after = Begins sectors faults start before p after
+GoesRound sectors faults limit (Err end) start before p after = Ends sectors faults limit end start before p after
+
 -- the session after all was shown
 abbrev pub AfterShowing : {A E : Type 0} {S : Type 0} → (S → Image) → (S → ℕ) → Result A E → PlayState S → Seat → Playing S → Seat → Type 0
 AfterShowing sectors faults (Ok done) start before p after = Stands sectors faults start before p after
-AfterShowing sectors faults (Err e) start before p after = IsBroken sectors faults start before p after
+AfterShowing sectors faults (Err e) start before p after = IsBroken sectors faults start p
 
 -- the same, and the next step is still to be made
 abbrev pub WaitsOn : {A : Type 0} {S : Type 0} → (S → Image) → (S → ℕ) → ℕ → Result A PlayEnd → PlayState S → Seat → Playing S → Seat → Type 0
@@ -116,6 +141,7 @@ pub record IsStill {S : Type 0} (old new : Playing S) : Type 0 where
 pub record OnlyShows {S : Type 0} (old new : Playing S) : Type 0 where
   pub cpu : new.cpu ≡ old.cpu
   pub turns : new.turns ≡ old.turns
+  pub ended : new.ended ≡ old.ended
   pub disk : new.bdos.disk ≡ old.bdos.disk
   pub arrivals : new.arrivals.items ≡ old.arrivals.items
 
@@ -123,14 +149,15 @@ pub record OnlyShows {S : Type 0} (old new : Playing S) : Type 0 where
 abbrev pub Repeats : {A : Type 0} {S : Type 0} → (S → Image) → (S → ℕ) → ℕ → Result A PlayEnd → PlayState S → Seat → Playing S → Seat → Type 0
 Repeats sectors faults limit (Ok done) start before p after = Stands sectors faults start before p after
 Repeats sectors faults limit (Err (play.Run end)) start before p after = IsOver sectors faults limit start end before p after
-Repeats sectors faults limit (Err play.Failed) start before p after = IsBroken sectors faults start before p after
+Repeats sectors faults limit (Err play.Failed) start before p after = IsBroken sectors faults start p
 Repeats sectors faults limit (Err other) start before p after = ⊥
 
 -- what it has come to when it ended
 abbrev pub RepeatsTo : {S : Type 0} → (S → Image) → (S → ℕ) → ℕ → ℕ → PlayEnd → PlayState S → Seat → Playing S → Seat → Type 0
 RepeatsTo sectors faults limit last (play.Run end) start before p after = IsOver sectors faults limit start end before p after
-RepeatsTo sectors faults limit last play.Left start before p after = Stands sectors faults start before p after × (is_finished p.cpu.pc ≡ false) × (last ≤ p.turns)
-RepeatsTo sectors faults limit last _ start before p after = IsBroken sectors faults start before p after
+RepeatsTo sectors faults limit last play.Left start before p after = Stands sectors faults start before p after × IsBetween limit p × (last ≤ p.turns)
+RepeatsTo sectors faults limit last play.NoMemory start before p after = Stands sectors faults start before p after
+RepeatsTo sectors faults limit last play.Failed start before p after = IsBroken sectors faults start p
 
 -- The target is reached, and the next step is still to be made; or steps were made towards it.
 abbrev pub HasReached : {S : Type 0} → ℕ → ℕ → Bool → Playing S → Playing S → Type 0

@@ -1,11 +1,10 @@
 //! The state of a session, and what changes it.
 
 ghost use Rattle.std.specs.Prelude.{◌≡◌, ◌≢◌, ◌≤◌, ◌<◌, ◌+◌, ◌^◌, ◌-◌, ◌++◌, [], ℕ, false, IfOk, List, MatchOption, OnErr, OnOk, Option, Some};
-ghost use Rattle.std.specs.Io.KnownBytes.{Appends};
 ghost use Rattle.cpm_run.specs.Play.{IsEcho, PlayState, PlaysOn, arrived, first_state};
 ghost use Rattle.cpm_run.specs.Seat.{Seat};
 ghost use Rattle.cpm_run.specs.Turns.{is_finished};
-ghost use Rattle.cpm_run.specs.Private.Playing.{AfterShowing, IsStill, OnlyShows, Stands, Waits, WaitsOn, Went, state_of, taken};
+ghost use Rattle.cpm_run.specs.Private.Playing.{AfterShowing, HasShown, IsStill, IsUnasked, OnlyShows, Stands, Waits, WaitsOn, Went, state_of, taken};
 
 use crate::arriving::{Arrival, PlayEnd};
 use crate::ending::Why;
@@ -72,6 +71,7 @@ impl<S: Sectors> Playing<S> {
     pub(crate) fn new(alloc: Global, cpu: Cpu, memory: Memory, disk: Disk<S>) -> Playing<S>
         ensures state { state_of result [] ≡ first_state cpu memory disk }
         ensures ahead { result.ahead.items ≡ [] }
+        ensures ended { result.ended ≡ false }
     {
         let console = MemoryConsole::new(alloc, Vec::new(alloc));
         Playing {
@@ -93,6 +93,7 @@ impl<S: Sectors> Playing<S> {
         ensures least { self.old.turns ≤ self.new.turns }
         ensures ahead { self.new.ahead.items ≡ self.old.ahead.items }
         ensures arrivals { self.new.arrivals.items ≡ self.old.arrivals.items }
+        ensures ended { self.new.ended ≡ self.old.ended }
         ensures goes { (start : PlayState S) (shown : List ℕ) → PlaysOn S.sectors S.faults start (state_of self.old shown) → Went S.sectors S.faults result start (state_of self.new shown) }
     {
         let (made, stop) = z80_machine::run(&mut self.cpu, &mut self.memory, SYSTEM, most);
@@ -117,6 +118,7 @@ impl<S: Sectors> Playing<S> {
         ensures turns { self.new.turns ≡ self.old.turns + 1 }
         ensures ahead { self.new.ahead.items ≡ self.old.ahead.items }
         ensures arrivals { self.new.arrivals.items ≡ self.old.arrivals.items }
+        ensures ended { self.new.ended ≡ self.old.ended }
         ensures goes { (start : PlayState S) (shown : List ℕ) → PlaysOn S.sectors S.faults start (state_of self.old shown) → Went S.sectors S.faults result start (state_of self.new shown) }
     {
         let end = turn(&mut self.cpu, &mut self.memory, &mut self.bdos);
@@ -128,6 +130,7 @@ impl<S: Sectors> Playing<S> {
     pub(crate) fn take_in(&mut self, alloc: Global, bytes: &[u8]) -> Result<(), AllocError>
         ensures still { IsStill self.old self.new }
         ensures ahead { self.new.ahead.items ≡ self.old.ahead.items }
+        ensures ended { self.new.ended ≡ self.old.ended }
         ensures output { self.new.bdos.terminal.console.output ≡ self.old.bdos.terminal.console.output }
         ensures arrivals { self.new.arrivals.items ≡ taken self.old.turns bytes.now result self.old.arrivals.items }
         ensures came { (start : PlayState S) (shown : List ℕ) → PlaysOn S.sectors S.faults start (state_of self.old shown) → PlaysOn S.sectors S.faults start (state_of self.new shown) }
@@ -158,7 +161,11 @@ impl<S: Sectors> Playing<S> {
     {
         let mut buffer = [0; 256];
         match station.listen(self.turns, patience, &mut buffer)? {
-            Came::Bytes(count) => self.take_in(alloc, &buffer[..count.min(256)])?,
+            Came::Bytes(count) => {
+                self.take_in(alloc, &buffer[..count.min(256)])?;
+                // What the keyboard says last counts: it may give keys again after it said that none would come.
+                self.ended = false;
+            }
             Came::End => self.ended = true,
             Came::Leave => return Err(PlayEnd::Left),
         }
@@ -169,10 +176,9 @@ impl<S: Sectors> Playing<S> {
     pub(crate) fn show<K: Station>(&mut self, station: &mut K) -> Result<(), StationFault>
         ensures others { OnlyShows self.old self.new }
         ensures failed { OnErr result (self.new ≡ self.old) }
-        ensures left { (K.seat station.new).left ≡ (K.seat station.old).left }
-        ensures coming { OnOk result ((K.seat station.new).coming ≡ (K.seat station.old).coming) }
-        ensures all { OnOk result ((before : Option (List ℕ)) (shown : List ℕ) → Appends before (K.seat station.old).shown (shown ++ self.old.ahead.items)
-            → (bytes : List ℕ) × (self.old.bdos.terminal.console.output ≡ Some bytes) × Appends before (K.seat station.new).shown (shown ++ bytes)) }
+        ensures keys { IsUnasked (K.seat station.old) (K.seat station.new) }
+        ensures all { OnOk result ((before : Seat) (shown : List ℕ) → HasShown before (K.seat station.old) shown self.old.ahead.items
+            → (bytes : List ℕ) × (self.old.bdos.terminal.console.output ≡ Some bytes) × HasShown before (K.seat station.new) shown bytes) }
         ensures rest { OnOk result ((self.new.ahead.items ≡ []) × (self.new.bdos.terminal.console.output ≡ Some []) × ((start : PlayState S) (shown bytes : List ℕ) → self.old.bdos.terminal.console.output ≡ Some bytes → PlaysOn S.sectors S.faults start (state_of self.old shown) → PlaysOn S.sectors S.faults start (state_of self.new (shown ++ bytes)))) }
     {
         let put = self.bdos.console().output();
@@ -189,7 +195,8 @@ impl<S: Sectors> Playing<S> {
     pub(crate) fn show_all<K: Station>(&mut self, station: &mut K) -> Result<(), StationFault>
         ensures still { IsStill self.old self.new }
         ensures arrivals { self.new.arrivals.items ≡ self.old.arrivals.items }
-        ensures coming { OnOk result ((K.seat station.new).coming ≡ (K.seat station.old).coming) }
+        ensures ended { self.new.ended ≡ self.old.ended }
+        ensures keys { IsUnasked (K.seat station.old) (K.seat station.new) }
         ensures ahead { OnOk result (self.new.ahead.items ≡ []) }
         ensures all { OnOk result (self.new.bdos.terminal.console.output ≡ Some []) }
         ensures so_far { (start : PlayState S) (before : Seat) → Stands S.sectors S.faults start before self.old (K.seat station.old) → AfterShowing S.sectors S.faults result start before self.new (K.seat station.new) }
@@ -204,7 +211,8 @@ impl<S: Sectors> Playing<S> {
     pub(crate) fn show_much<K: Station>(&mut self, station: &mut K) -> Result<(), StationFault>
         ensures still { IsStill self.old self.new }
         ensures arrivals { self.new.arrivals.items ≡ self.old.arrivals.items }
-        ensures coming { OnOk result ((K.seat station.new).coming ≡ (K.seat station.old).coming) }
+        ensures ended { self.new.ended ≡ self.old.ended }
+        ensures keys { IsUnasked (K.seat station.old) (K.seat station.new) }
         ensures so_far { (start : PlayState S) (before : Seat) → Stands S.sectors S.faults start before self.old (K.seat station.old) → AfterShowing S.sectors S.faults result start before self.new (K.seat station.new) }
     {
         if !self.ahead.is_empty() || self.bdos.console().output().len() >= MOST_HELD {

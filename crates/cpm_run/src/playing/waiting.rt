@@ -19,7 +19,7 @@ use std::alloc::{AllocError, Global};
 const MOST_WAITS: u32 = u32::MAX;
 
 /// After this number of steps the keyboard is looked at even if no step has asked for it, so that a person can leave a program that only
-/// prints.
+/// prints or computes.
 const LONGEST_UNSEEN: u64 = 2_000_000;
 
 /// What function 10 has put so far, and whether the line is whole.
@@ -27,6 +27,15 @@ const LONGEST_UNSEEN: u64 = 2_000_000;
 struct Echo {
     bytes: Vec<u8>,
     is_whole: bool,
+}
+
+/// How the keyboard is asked if the next step can be made at once.
+fn patience_for(need: Need) -> Patience {
+    if need == Need::Nothing {
+        Patience::Glance
+    } else {
+        Patience::Poll
+    }
 }
 
 /// What function 10 puts for these bytes.
@@ -107,7 +116,7 @@ impl<S: Sectors> Playing<S> {
     {
         self.show_all(station)?;
         match need {
-            Need::Nothing | Need::Status => self.listen(alloc, station, Patience::Poll),
+            Need::Nothing | Need::Status => self.listen(alloc, station, patience_for(need)),
             Need::Byte => self.await_byte(alloc, station),
             Need::Line => self.await_line(alloc, station),
         }

@@ -1,9 +1,9 @@
-use Rattle.std.proofs.Common.{◌≤◌, ◌∙◌, inl, subst, sym, ap}
+use Rattle.std.proofs.Common.{◌≤◌, ◌∙◌, inl, subst, sym, ap, arith}
 use Rattle.cpm_run.specs.declared.arriving.PlayEnd.{PlayEnd}
 use Rattle.cpm_run.specs.Play.{PlayEnds, PlaysOn, Sees, first_state}
 use Rattle.cpm_run.specs.Play.PlaysOn.{same}
 use Rattle.cpm_run.specs.Private.Playing.{state_of}
-use Rattle.cpm_run.proofs.Sitting.{at_first, none_came_yet}
+use Rattle.cpm_run.proofs.Sitting.{at_first, none_came_yet, same_arrives, sooner}
 use Rattle.cpm_run.proofs.playing.play.Goals as goal
 
 pub returns : goal.returns
@@ -11,7 +11,7 @@ returns g c =
     let start = first_state c.in-Ok.state.0 c.in-Ok.state.1 c.args.disk in
     let before = g.K.Station.seat c.args.station.now in
     let first = at_first g.S.Sectors.sectors g.S.Sectors.faults start before c.new-playing.result (subst (PlaysOn g.S.Sectors.sectors g.S.Sectors.faults start) (sym c.new-playing.ensures.state) (same start)) c.new-playing.ensures.ahead in
-    let closed = c.close-end.ensures.ended c.args.limit start before (c.play-end.ensures.so_far start before (none_came_yet g.S.Sectors.sectors g.S.Sectors.faults start before c.new-playing.result first (ap (λ s. s.arrivals) c.new-playing.ensures.state))) in
+    let closed = c.close-end.ensures.ended c.args.limit start before (c.play-end.ensures.so_far start before (none_came_yet g.S.Sectors.sectors g.S.Sectors.faults start before c.new-playing.result first (ap (λ s. s.arrivals) c.new-playing.ensures.state) c.new-playing.ensures.ended)) in
     let others = c.close-end.ensures.others in
     let played = c.into_played.ensures in
     let final = state_of c.play-end.new.self closed.0 in
@@ -26,5 +26,7 @@ returns g c =
       played.pc ∙ ap (λ r. r.pc) others.cpu,
       played.disk ∙ others.disk,
       played.arrivals ∙ others.arrivals,
-      subst (λ (e : PlayEnd). Sees e before (g.K.Station.seat c.close-end.new.station) final) (sym played.end) closed.2,
+      same_arrives before c.play-end.new.self.arrivals.items _ (played.arrivals ∙ others.arrivals) closed.2,
+      subst (λ (e : PlayEnd). Sees e before (g.K.Station.seat c.close-end.new.station) final) (sym played.end) closed.3,
+      λ reason is. sooner c.play-end.new.self.turns _ c.play-end.new.self.arrivals.items _ (let t = played.turns ∙ others.turns in omega (arith, t)) (played.arrivals ∙ others.arrivals) (closed.4 reason (sym played.end ∙ is)),
     )

@@ -11,7 +11,7 @@ returns g c =
     let start = first_state c.in-Ok.state.0 c.in-Ok.state.1 c.args.disk in
     let before = g.K.Station.seat c.args.station.now in
     let first = at_first g.S.Sectors.sectors g.S.Sectors.faults start before c.new-playing.result (subst (PlaysOn g.S.Sectors.sectors g.S.Sectors.faults start) (sym c.new-playing.ensures.state) (same start)) c.new-playing.ensures.ahead in
-    let closed = c.finish-end.ensures.ended c.args.limit c.args.last start before (c.repeat-end.ensures.stands start before first) in
+    let closed = c.finish-end.ensures.ended c.args.limit c.args.last start before (c.repeat-end.ensures.stands start before first) c.repeat-end.ensures.keys in
     let others = c.finish-end.ensures.others in
     let played = c.into_played.ensures in
     let final = state_of c.repeat-end.new.self closed.0 in
@@ -27,6 +27,12 @@ returns g c =
       played.disk ∙ others.disk,
       played.arrivals ∙ others.arrivals,
       subst (λ (e : PlayEnd). IsShownAgain e before (g.K.Station.seat c.finish-end.new.station) final) (sym played.end) closed.2,
-      λ order. subst (λ n. FollowsRecord c.args.recorded.now c.args.last n c.into_played.result.arrivals.items) (sym (played.turns ∙ others.turns)) (subst (λ l. FollowsRecord c.args.recorded.now c.args.last c.repeat-end.new.self.turns l) (sym (played.arrivals ∙ others.arrivals))
-          (c.repeat-end.ensures.follows (ap (λ s. s.arrivals) c.new-playing.ensures.state) (ap (λ s. s.turns) c.new-playing.ensures.state) order)),
+      λ order.
+          let none_yet = ap (λ s. s.arrivals) c.new-playing.ensures.state in
+          let at_start = ap (λ s. s.turns) c.new-playing.ensures.state in
+          let kept = c.repeat-end.ensures.follows none_yet at_start order in (
+            subst (λ n. FollowsRecord c.args.recorded.now c.args.last n c.into_played.result.arrivals.items) (sym (played.turns ∙ others.turns)) (subst (λ l. FollowsRecord c.args.recorded.now c.args.last c.repeat-end.new.self.turns l) (sym (played.arrivals ∙ others.arrivals))
+                kept.0),
+            λ left. played.arrivals ∙ others.arrivals ∙ kept.1 (c.finish-end.ensures.left (sym played.end ∙ left)),
+          ),
     )

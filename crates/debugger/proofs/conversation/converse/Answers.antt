@@ -1,22 +1,38 @@
-use Rattle.std.proofs.Common.{◌∙◌, arith, refl, subst}
-use Rattle.debugger.specs.Conversation.{SessionState, TalksOn}
+use Rattle.std.proofs.Common.{◌≡◌, ◌∙◌, ◌++◌, List, [], Bool, ℕ, arith, false, true, refl, subst, sym}
+use Rattle.std.proofs.KnownBytes.{Consumes-nil, Consumes-trans}
+use Rattle.std.proofs.lemmas.List.Elements.{All-nil}
+use Rattle.debugger.specs.Conversation.{SessionState}
 use Rattle.debugger.specs.Labelled.{Known}
-use Rattle.debugger.proofs.Talking.{silent, talk_on}
+use Rattle.debugger.specs.Private.Lines.{GetsLines, TakesLines}
+use Rattle.debugger.proofs.Talking.{all_taken, going_on, last_read, lines_on, quit_read, untaken}
 use Rattle.debugger.proofs.conversation.converse.Goals as goal
 
 pub loop-init : goal.loop-init
 loop-init g c =
     let s = c.args.session.now in
+    let t : SessionState = record { shown = s.history; stops = s.stops; is_over = s.is_over } in
+    let out = g.O.Sink.stream c.args.output.now in
+    let none = all_taken s.labels s.listing.now [] [] [] t t out out (untaken s.labels s.listing.now [] t out (All-nil (λ b. ¬ (b ≡ 10)))) in
     record {
       start = refl;
       after = c.knows.ensures;
       labels = refl;
       listing = refl;
-      talks = silent s.labels s.listing.now (record { shown = s.history; stops = s.stops; is_over = s.is_over }) (g.O.Sink.stream c.args.output.now);
+      talks = ([], Consumes-nil (g.I.Input.remaining c.args.input.now), subst (λ (next : List ℕ). TakesLines s.labels s.listing.now [] [] next t t out out) (sym c.new-line.ensures.items) none);
       failures = refl;
       failed = c.requires.sound;
       reads = c.requires.unread;
     }
+
+pub read_some-requires-clause-line : goal.read_some-requires-clause-line
+read_some-requires-clause-line g c =
+    let s = c.args.session.now in
+    let t = c.loop.session in
+    let first : SessionState = record { shown = s.history; stops = s.stops; is_over = s.is_over } in
+    let mid : SessionState = record { shown = t.history; stops = t.stops; is_over = t.is_over } in
+    let talks = c.loop.invariant.talks in
+    let all = going_on s.labels s.listing.now [] talks.0 c.loop.line.items first mid (g.O.Sink.stream c.args.output.now) (g.O.Sink.stream c.loop.output) (sym c.is_over.ensures ∙ c.if-is_over.false) talks.2 in
+    all.2
 
 pub loop-preserved : goal.loop-preserved
 loop-preserved g c =
@@ -29,18 +45,39 @@ loop-preserved g c =
     let a = g.O.Sink.stream c.args.output.now in
     let b = g.O.Sink.stream c.loop.output in
     let d = g.O.Sink.stream c.read_some.new.output in
-    let same_labels = subst (λ (known : Known). TalksOn known t.listing.now mid last b d) c.loop.invariant.labels c.in_ok-read_some.ensures.talks in
-    let same = subst (λ l. TalksOn s.labels l.now mid last b d) c.loop.invariant.listing same_labels in
+    let from = g.I.Input.remaining c.args.input.now in
+    let rest = g.I.Input.remaining c.loop.input in
+    let left = g.I.Input.remaining c.read_some.new.input in
+    let line = c.loop.line.items in
+    let next = c.read_some.new.line.items in
+    let talks = c.loop.invariant.talks in
+    let goes_on = subst (λ (ended : Bool). GetsLines t.labels t.listing.now rest left line next mid last b d ended) c.if-branch.false c.in_ok-read_some.ensures.talks in
+    let same_labels = subst (λ (known : Known). GetsLines known t.listing.now rest left line next mid last b d false) c.loop.invariant.labels goes_on in
+    let got = subst (λ l. GetsLines s.labels l.now rest left line next mid last b d false) c.loop.invariant.listing same_labels in
+    let lines = lines_on s.labels s.listing.now [] talks.0 got.0 line next first mid last a b d (sym c.is_over.ensures ∙ c.if-is_over.false) talks.2 got.2 in
     record {
       start = c.in_ok-read_some.ensures.start ∙ c.loop.invariant.start;
       after = c.in_ok-read_some.ensures.after;
       labels = c.in_ok-read_some.ensures.labels ∙ c.loop.invariant.labels;
       listing = c.in_ok-read_some.ensures.listing ∙ c.loop.invariant.listing;
-      talks = talk_on s.labels s.listing.now first mid last a b d c.loop.invariant.talks same;
+      talks = (talks.0 ++ got.0, Consumes-trans from rest left talks.0 got.0 talks.1 got.1, lines);
       failures = c.in_ok-read_some.ensures.ends.0 ∙ c.loop.invariant.failures;
       failed = c.in_ok-read_some.ensures.ends.1;
       reads = let more = c.in_ok-read_some.ensures.reads in let so_far = c.loop.invariant.reads in omega (arith, more, so_far);
     }
+
+pub returns-then-is_over-clause-talks : goal.returns-then-is_over-clause-talks
+returns-then-is_over-clause-talks g c =
+    let s = c.args.session.now in
+    let t = c.loop.session in
+    let first : SessionState = record { shown = s.history; stops = s.stops; is_over = s.is_over } in
+    let mid : SessionState = record { shown = t.history; stops = t.stops; is_over = t.is_over } in
+    let a = g.O.Sink.stream c.args.output.now in
+    let b = g.O.Sink.stream c.loop.output in
+    let from = g.I.Input.remaining c.args.input.now in
+    let rest = g.I.Input.remaining c.loop.input in
+    let talks = c.loop.invariant.talks in
+    quit_read s.labels s.listing.now talks.0 c.loop.line.items from rest first mid a b (sym c.is_over.ensures ∙ c.if-is_over.true) talks.1 talks.2
 
 pub returns-then-branch-clause-talks : goal.returns-then-branch-clause-talks
 returns-then-branch-clause-talks g c =
@@ -53,6 +90,13 @@ returns-then-branch-clause-talks g c =
     let a = g.O.Sink.stream c.args.output.now in
     let b = g.O.Sink.stream c.loop.output in
     let d = g.O.Sink.stream c.read_some.new.output in
-    let same_labels = subst (λ (known : Known). TalksOn known t.listing.now mid last b d) c.loop.invariant.labels c.in_ok-read_some.ensures.talks in
-    let same = subst (λ l. TalksOn s.labels l.now mid last b d) c.loop.invariant.listing same_labels in
-    talk_on s.labels s.listing.now first mid last a b d c.loop.invariant.talks same
+    let from = g.I.Input.remaining c.args.input.now in
+    let rest = g.I.Input.remaining c.loop.input in
+    let left = g.I.Input.remaining c.read_some.new.input in
+    let line = c.loop.line.items in
+    let next = c.read_some.new.line.items in
+    let talks = c.loop.invariant.talks in
+    let ends = subst (λ (ended : Bool). GetsLines t.labels t.listing.now rest left line next mid last b d ended) c.if-branch.true c.in_ok-read_some.ensures.talks in
+    let same_labels = subst (λ (known : Known). GetsLines known t.listing.now rest left line next mid last b d true) c.loop.invariant.labels ends in
+    let got = subst (λ l. GetsLines s.labels l.now rest left line next mid last b d true) c.loop.invariant.listing same_labels in
+    last_read s.labels s.listing.now talks.0 line from rest left first mid last a b d (sym c.is_over.ensures ∙ c.if-is_over.false) talks.1 talks.2 got.0 got.1 got.2

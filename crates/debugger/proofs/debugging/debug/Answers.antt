@@ -1,6 +1,6 @@
 use Rattle.std.proofs.Common.{◌∙◌, ap, length, map, subst, sym, false, Some, []}
 use Rattle.cpm_console.specs.Dialog.{Dialog, dialog_of}
-use Rattle.debugger.specs.Conversation.{SessionState, TalksOn}
+use Rattle.debugger.specs.Conversation.{SessionState, TalksThrough}
 use Rattle.debugger.specs.Going.{IsFirstShown}
 use Rattle.debugger.specs.Labelled.{Known, symbol_parts}
 use Rattle.debugger.specs.Walk.{Shown}
@@ -16,16 +16,18 @@ returns-in-Ok-converse-clause-debugged g c =
     let labels = c.with_listing-session.ensures.labels ∙ c.new-3.ensures.labels ∙ c.in-Ok-new.ensures in
     let before = g.O.Sink.stream c.args.output.now in
     let after = g.O.Sink.stream c.converse.new.output in
+    let from = g.I.Input.remaining c.args.commands.now in
+    let left = g.I.Input.remaining c.converse.new.input in
     let last : SessionState = record { shown = c.converse.new.session.history; stops = c.converse.new.session.stops; is_over = c.converse.new.session.is_over } in
-    let talks = subst (λ (known : Known). TalksOn known begun.listing.now (record { shown = begun.history; stops = begun.stops; is_over = begun.is_over }) last before after) labels c.in-Ok-converse.ensures.talks in
+    let talks = subst (λ (known : Known). TalksThrough known begun.listing.now from left (record { shown = begun.history; stops = begun.stops; is_over = begun.is_over }) last before after) labels c.in-Ok-converse.ensures.talks in
     let known : Known = record { labels = map symbol_parts c.args.symbols.now; size = length file } in
-    let first = subst (λ (d : Dialog). IsFirstShown file words c.args.program.disk d c.in-Ok.history) c.new-console.ensures c.in-Ok.ensures.begins in (
+    let first = subst (λ (d : Dialog). IsFirstShown file words c.args.program.disk d c.args.program.recorded.now c.in-Ok.history) c.new-console.ensures c.in-Ok.ensures.begins in (
       begun.history,
       begun.stops,
       last,
-      subst (λ (h : Shown). IsFirstShown file words c.args.program.disk (dialog_of c.args.program.typed.items (Some []) 0) h) (sym history) first,
+      subst (λ (h : Shown). IsFirstShown file words c.args.program.disk (dialog_of c.args.program.typed.items (Some []) 0) c.args.program.recorded.now h) (sym history) first,
       ap (λ (s : Stops). s.breakpoints.items) c.with_listing-session.ensures.stops ∙ c.new-3.ensures.breakpoints,
       ap (λ (s : Stops). s.watches.items) c.with_listing-session.ensures.stops ∙ c.new-3.ensures.watches,
-      subst (λ l. TalksOn known l.now (record { shown = begun.history; stops = begun.stops; is_over = false }) last before after) c.with_listing-session.ensures.listing
-          (subst (λ b. TalksOn known begun.listing.now (record { shown = begun.history; stops = begun.stops; is_over = b }) last before after) (c.with_listing-session.ensures.over ∙ c.new-3.ensures.over) talks),
+      subst (λ l. TalksThrough known l.now from left (record { shown = begun.history; stops = begun.stops; is_over = false }) last before after) c.with_listing-session.ensures.listing
+          (subst (λ b. TalksThrough known begun.listing.now from left (record { shown = begun.history; stops = begun.stops; is_over = b }) last before after) (c.with_listing-session.ensures.over ∙ c.new-3.ensures.over) talks),
     )

@@ -1,8 +1,8 @@
-use Rattle.std.proofs.Common.{◌≡◌, ℕ, ap, ◌∙◌, arith, inl, subst}
+use Rattle.std.proofs.Common.{◌≡◌, ℕ, ap, ◌∙◌, arith, inl, rules, subst, sym}
 use Rattle.debugger.specs.Calls.{IsCallTo, calls, shown_place}
 use Rattle.debugger.specs.Walk.{IsAfter, Shown, never}
 use Rattle.debugger.specs.declared.calls.ReturnPlace.{ReturnPlace}
-use Rattle.debugger.proofs.Going.{begun, call_made, go_on}
+use Rattle.debugger.proofs.Going.{begun, call_made, go_on, goes_on, room}
 use Rattle.debugger.proofs.history.History.call_before.Goals as goal
 
 pub loop-number-init : goal.loop-number-init
@@ -34,3 +34,10 @@ returns c =
       subst (λ (p : ReturnPlace). IsCallTo p shown.start shown.turn c.loop-number.point c.loop-number.call) place
           (subst (λ (n : ℕ). IsCallTo c.shown_place-place.result shown.start n c.loop-number.point c.loop-number.call) e c.loop-number.invariant.known),
     )
+
+pub advance-requires-clause-room : goal.advance-requires-clause-room
+advance-requires-clause-room c =
+    let first = ap (λ (h : Shown). h.start.turns) (sym c.self.view_is) ∙ c.self.invariant.first in
+    let going = goes_on c.loop-number.point.end c.end.result c.is_some.result c.end.ensures c.is_some.ensures c.if-is_some.false in
+    let below = c.loop-number-test.true in
+    room c.args.self.now.start c.loop-number.number c.loop-number.point first c.loop-number.invariant.all going (search (rules, below))

@@ -2,7 +2,7 @@ use Rattle.std.proofs.Common.{◌≡◌, ℕ, ◌+◌, None, Option, ap, ◌∙�
 use Rattle.debugger.specs.Stops.{IsLastBefore, holds}
 use Rattle.debugger.specs.Walk.{Shown, never}
 use Rattle.debugger.specs.declared.stops.Hit.{Hit}
-use Rattle.debugger.proofs.Going.{begun, go_on, last_more}
+use Rattle.debugger.proofs.Going.{begun, go_on, goes_on, last_more, room}
 use Rattle.debugger.proofs.history.History.last.Goals as goal
 
 pub loop-number-init : goal.loop-number-init
@@ -27,3 +27,10 @@ pub returns-then-ends_so : goal.returns-then-ends_so
 returns-then-ends_so c =
     let e : c.loop-number.number ≡ c.args.turn = omega arith in
     (c.loop-number.point, c.ends_so.ensures c.if-ends_so.true, subst (λ (n : ℕ). IsLastBefore c.args.stops.now c.args.self.now.start n c.loop-number.point c.loop-number.last) e c.loop-number.invariant.known)
+
+pub advance-requires-clause-room : goal.advance-requires-clause-room
+advance-requires-clause-room c =
+    let first = ap (λ (h : Shown). h.start.turns) (sym c.self.view_is) ∙ c.self.invariant.first in
+    let going = goes_on c.loop-number.point.end c.end.result c.is_some.result c.end.ensures c.is_some.ensures c.if-is_some.false in
+    let below = c.loop-number-test.true in
+    room c.args.self.now.start c.loop-number.number c.loop-number.point first c.loop-number.invariant.all going (let most = c.ranges.turn.fits in omega (arith, below, most))

@@ -1,9 +1,11 @@
-use Rattle.debugger.specs.Walk.{never}
+use Rattle.std.proofs.Common.{ap}
+use Rattle.debugger.specs.Walk.{MemoryState, never}
 use Rattle.debugger.proofs.Going.{begun, none_kept}
 use Rattle.debugger.proofs.history.History.new.Goals as goal
 
 pub invariant_of-result : goal.invariant_of-result
 invariant_of-result c = record {
+  first = ap (λ (s : MemoryState). s.turns) c.new-start.ensures;
   kept_are = none_kept c.new-start.result c.new.result.states.items c.new.ensures;
   now_is = begun never c.new-start.result c.in_ok-copied.field-0 c.first-point.result c.first-point.ensures c.in_ok-copied.ensures;
 }

@@ -8,16 +8,19 @@ use Rattle.z80dev_run.proofs.running.Ready.debug.Goals as goal
 pub returns-clause-debugged : goal.returns-clause-debugged
 returns-clause-debugged g c = λ program words image input ready.
     let own = c.args.self in
+    let recorded = c.args.recorded.now in
     let labels = map symbol_parts c.args.symbols.now in
     let before = g.O.Sink.stream c.args.output.now in
     let after = g.O.Sink.stream c.debug.new.output in
+    let from = g.I.Input.remaining c.args.commands.now in
+    let left = g.I.Input.remaining c.debug.new.commands in
     let words_are = ap (λ ws. map (λ w. w.now) ws) c.deref.ensures.value ∙ ready.words_are in
     IfOk-weaker c.debug.result _ _
     (λ done known. (
       own.disk,
       ready.disk_is,
-      subst (λ (file : List ℕ). DebugsTo file words own.disk (typed input) (record { labels = labels; size = length file }) c.args.listing.now before after) ready.program_is
-          (subst (λ (ws : List (List ℕ)). DebugsTo own.program.now ws own.disk (typed input) (record { labels = labels; size = length own.program.now }) c.args.listing.now before after) words_are
-          (subst (λ (bytes : List ℕ). DebugsTo own.program.now (map (λ w. w.now) c.deref.result.now) own.disk bytes (record { labels = labels; size = length own.program.now }) c.args.listing.now before after) ready.typed_is known)),
+      subst (λ (file : List ℕ). DebugsTo file words own.disk (typed input) recorded (record { labels = labels; size = length file }) c.args.listing.now from left before after) ready.program_is
+          (subst (λ (ws : List (List ℕ)). DebugsTo own.program.now ws own.disk (typed input) recorded (record { labels = labels; size = length own.program.now }) c.args.listing.now from left before after) words_are
+          (subst (λ (bytes : List ℕ). DebugsTo own.program.now (map (λ w. w.now) c.deref.result.now) own.disk bytes recorded (record { labels = labels; size = length own.program.now }) c.args.listing.now from left before after) ready.typed_is known)),
     ))
     c.debug.ensures.debugged

@@ -10,7 +10,7 @@ use Rattle.cpm_run.proofs.playing.state.Playing.show.Goals as goal
 
 pub returns-clause-all : goal.returns-clause-all
 returns-clause-all g c = λ before shown was.
-    (c.output-put.result.now, ap (λ (d : Dialog). d.output) (sym c.console.ensures) ∙ c.output-put.ensures, shown_all before _ _ shown c.args.self.now.ahead.items c.in-Some.rest.now c.output-put.result.now was c.in_ok-show.ensures.shown (c.in-Some.ensures ∙ ap (λ (l : List ℕ). l ++ c.in-Some.rest.now) c.deref.ensures.value))
+    (c.output-put.result.now, ap (λ (d : Dialog). d.output) (sym c.console.ensures) ∙ c.output-put.ensures, shown_all before (g.K.Station.seat c.args.station.now) (g.K.Station.seat c.show.new.self) shown c.args.self.now.ahead.items c.in-Some.rest.now c.output-put.result.now was c.in_ok-show.ensures.screen (c.in-Some.ensures ∙ ap (λ (l : List ℕ). l ++ c.in-Some.rest.now) c.deref.ensures.value))
 
 pub returns-clause-rest : goal.returns-clause-rest
 returns-clause-rest g c = (

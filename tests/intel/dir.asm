@@ -1,0 +1,93 @@
+;	DIR lists the files of a disk, in the style of MAC
+;
+BDOS	EQU	5
+DMA	EQU	80H
+NAMES	SET	0
+;
+SYS	MACRO	FN,ARG		;;a call of the system
+	IF	FN NE 2
+	LXI	D,ARG
+	ENDIF
+	MVI	C,FN
+	CALL	BDOS
+	ENDM
+;
+SAVE	MACRO	P,HL		;;two pairs
+	PUSH	P
+	PUSH	HL
+	ENDM
+BACK	MACRO	P,HL
+	POP	HL
+	POP	P
+	ENDM
+;
+CHAR	MACRO	R		;;prints a register, and keeps the others
+	SAVE	B,H
+	MOV	A,R
+	ANI	7FH		;;the attributes are in the highest bits
+	MOV	E,A
+	SYS	2,0
+	BACK	B,H
+	ENDM
+;
+FIELD	MACRO	N		;;N characters at HL
+	LOCAL	NEXT,DONE
+	MVI	B,N
+NEXT:	MOV	A,M
+	ANI	0111$1111B
+	CPI	' '
+	JZ	DONE
+	CHAR	M
+	INX	H
+	DCR	B
+	JNZ	NEXT
+DONE:
+	ENDM
+;
+	ORG	100H
+START:	LXI	SP,TOP
+	SYS	17,PATTERN
+LIST:	INR	A
+	JZ	LAST		;no more
+	DCR	A
+	RRC ! RRC ! RRC		;times 32
+	MOV	E,A
+	MVI	D,0
+	LXI	H,DMA+1
+	DAD	D
+	PUSH	H
+	FIELD	8
+	POP	H
+	LXI	D,8
+	DAD	D
+	MVI	E,'.'
+	CHAR	E
+	FIELD	3
+	IRP	CH,<0DH,0AH>
+	MVI	E,CH
+	CHAR	E
+	ENDM
+	LXI	H,COUNT
+	INR	M
+	SYS	18,PATTERN
+	JMP	LIST
+LAST:	LDA	COUNT
+	ADI	'0'
+	MOV	E,A
+	CHAR	E
+	SYS	9,TEXT
+	RST	0
+;
+TEXT:	DB	' file(s)'
+	REPT	2
+NAMES	SET	NAMES+1
+	DB	'!'
+	ENDM
+	DB	'0'+NAMES,'$'
+PATTERN:
+	DB	0,'???????????',0
+	DS	20
+COUNT:	DB	0
+	DS	40
+TOP:
+	END	START
