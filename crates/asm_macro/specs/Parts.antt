@@ -1,5 +1,4 @@
--- What a line that expansion reaches leads to, given the lines that follow it: the function `part`, which makes all decisions of an
--- expansion.
+-- What a line that expansion reaches leads to, given the lines that follow it: `line_part`, at the end of this file.
 use Rattle.std.specs.Prelude.{ℕ, zero, suc, ◌+◌, List, [], ◌∷◌, Option, Some, None, Result, Ok, Err, if◌then◌else◌, nat_le, length, map, codes}
 use Rattle.std.specs.Str.{bytes_eq}
 use Rattle.asm_macro.specs.declared.take.TheConstants.{MOST_NESTED}
@@ -47,8 +46,7 @@ passed (t ∷ _) part = fails t.end MacroFault.Stray
 abbrev pub behind_first : Branches → State → ExpansionPart
 behind_first b e = closing b.first.end (passed b.others (Go [] e b.after))
 
--- an IF: its first branch if its value is not 0, otherwise the branch of its ELSE if there is one. After that branch, a second ELSE is an
--- error
+-- after the branch of an ELSE: a second ELSE is an error
 abbrev pub behind_second : Section → List Section → State → List Numbered → ExpansionPart
 behind_second t [] e after = closing t.end (Go [] e after)
 behind_second t (_ ∷ _) e after = fails t.end MacroFault.Stray
@@ -57,6 +55,7 @@ abbrev pub else_part : ℕ → State → List Section → List Numbered → Expa
 else_part depth e [] after = Go [] e after
 else_part depth e (t ∷ more) after = Within [] e depth t.lines (BehindSecond t more after)
 
+-- an IF: its first branch if its value is not 0, otherwise the branch of its ELSE if there is one
 abbrev pub branch_part : ℕ → ℕ → State → Branches → ExpansionPart
 branch_part (suc n) depth e b = Within [] e depth b.first.lines (BehindFirst b)
 branch_part zero depth e b = closing b.first.end (else_part depth e b.others b.after)
@@ -90,10 +89,10 @@ conditional depth e l (Some branches) (Ok n) = branch_part n depth e branches
 conditional depth e l (Some branches) (Err fault) = fails l fault
 conditional depth e l None value = fails l MacroFault.Unclosed
 
--- `name MACRO`, given its parameters and its body
 abbrev pub line_texts : List Numbered → List (List ℕ)
 line_texts lines = map (λ l. l.text) lines
 
+-- `name MACRO`, given its parameters and its body
 abbrev pub definition : State → Numbered → List ℕ → Option (List (List ℕ)) → Option BlockBody → ExpansionPart
 definition e l name (Some some) (Some body) =
     closing body.section.end (Go [] (with_macro (upper name) (record { parameters = some; body = line_texts body.section.lines }) e) body.after)

@@ -1,4 +1,5 @@
--- Only private contracts use these definitions. A reviewer may skip them.
+-- Private contracts use these definitions, and so does Parsed. A reviewer may skip them: `laws::parsed` says that what Parsed finds is
+-- what IsParsed means.
 pub mod Parsing
 pub mod Stacks
 pub mod Readers
