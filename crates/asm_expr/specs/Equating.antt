@@ -1,4 +1,5 @@
 -- What a name stands for that EQU defines by an expression.
+-- In words: docs/LANGUAGE.md, section 'EQU'.
 use Rattle.std.specs.Prelude.{Result, Ok, if◌then◌else◌}
 use Rattle.std.specs.List.{list_all}
 use Rattle.common.specs.Results.{◌>>=◌}

@@ -1,4 +1,5 @@
 -- What names stand for, and the statements of a module in order.
+-- In words: docs/LANGUAGE.md, section 'Expressions'.
 use Rattle.std.specs.Prelude.{◌≡◌, ◌≤◌, ℕ, List, [], ◌∷◌, ◌++◌, Option, Some, length}
 use Rattle.std.specs.Map.{lookup}
 use Rattle.std.specs.Str.{bytes_eq}

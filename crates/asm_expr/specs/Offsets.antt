@@ -1,4 +1,5 @@
 -- Operands of JR and DJNZ that begin with `$`: `$`, `$+n` and `$-n`.
+-- In words: docs/LANGUAGE.md, section 'Jumps'.
 use Rattle.std.specs.Prelude.{◌≡◌, ◌≢◌, Some, None, Result, Ok, Err, if◌then◌else◌}
 use Rattle.std.specs.List.{list_all}
 use Rattle.asm_parse.specs.declared.fault.ExprFault.{ExprFault}

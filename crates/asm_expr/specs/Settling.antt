@@ -1,4 +1,5 @@
 -- What an expression is settled as: its first error, or its items with names replaced and each fixed part as its number.
+-- In words: docs/LANGUAGE.md, section 'What is known when'.
 use Rattle.std.specs.Prelude.{◌≡◌, ◌≤◌, ◌↔◌, length, [], ◌∷◌, ℕ, zero, suc, ◌+◌, Bool, true, false, List, Option, Some, None, Result, Ok, Err, if◌then◌else◌, nat_lt, is_some}
 use Rattle.std.specs.List.{list_all}
 use Rattle.std.specs.Option.{option_map}

@@ -1,4 +1,5 @@
 -- Parentheses: a comma within them separates no operands and no arguments.
+-- In words: docs/LANGUAGE.md, section 'Lines'.
 use Rattle.std.specs.Prelude.{ℕ, ◌+◌, ◌-◌}
 use Rattle.asm_scan.specs.declared.token.Kind.{Kind}
 use Rattle.asm_scan.specs.declared.token.Mark.{Mark}

@@ -1,4 +1,5 @@
 -- How a line begins: its label and its head.
+-- In words: docs/LANGUAGE.md, section 'Lines'.
 use Rattle.std.specs.Prelude.{ℕ, List, [], ◌∷◌, Option, Some, None, ◌&&◌, if◌then◌else◌, codes}
 use Rattle.std.specs.Str.{str_eq_ignore_ascii_case}
 use Rattle.asm_scan.specs.Tokens.{Lexeme}

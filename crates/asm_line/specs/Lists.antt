@@ -1,4 +1,5 @@
 -- Names separated by commas.
+-- In words: docs/LANGUAGE.md, section 'Modules'.
 use Rattle.std.specs.Prelude.{ℕ, List, [], ◌∷◌, Option, Some, None, ◌&&◌, if◌then◌else◌}
 use Rattle.std.specs.Option.{option_map}
 use Rattle.asm_scan.specs.Tokens.{Lexeme}

@@ -1,4 +1,5 @@
 -- The expansion of lines: which lines they become once macros are called, REPTs are repeated and branches of IFs are chosen.
+-- In words: docs/LANGUAGE.md, section 'Macros'.
 use Rattle.std.specs.Prelude.{◌<◌, ◌≤◌, ℕ, List, [], ◌∷◌, ◌++◌, Result, Ok, Err, length}
 use Rattle.common.specs.declared.limits.TheConstants.{LONGEST_TEXT}
 use Rattle.asm_macro.specs.declared.fault.MacroFault.{MacroFault}

@@ -1,4 +1,5 @@
 -- The errors of one line when expansion reaches it, before its expression is parsed: each of them, and then which one is reported.
+-- In words: docs/LANGUAGE.md, section 'Macros'.
 use Rattle.std.specs.Prelude.{ℕ, Bool, true, false, not, ◌||◌, ◌&&◌, List, [], ◌∷◌, Option, Some, None, Result, Ok, Err, if◌then◌else◌, nat_le, nat_lt, is_some}
 use Rattle.asm_macro.specs.declared.expansion.TheConstants.{MOST_LINES}
 use Rattle.asm_scan.specs.declared.fault.ScanFault.{ScanFault}

@@ -1,4 +1,5 @@
 -- What a line that expansion reaches leads to, given the lines that follow it: `line_part`, at the end of this file.
+-- In words: docs/LANGUAGE.md, section 'Macros'.
 use Rattle.std.specs.Prelude.{ℕ, zero, suc, ◌+◌, List, [], ◌∷◌, Option, Some, None, Result, Ok, Err, if◌then◌else◌, nat_le, length, map, codes}
 use Rattle.std.specs.Str.{bytes_eq}
 use Rattle.asm_macro.specs.declared.take.TheConstants.{MOST_NESTED}

@@ -1,4 +1,5 @@
 -- A source as a list of lines.
+-- In words: docs/LANGUAGE.md, section 'Lines'.
 use Rattle.std.specs.Prelude.{ℕ, ◌+◌, ◌==◌, not, List, [], ◌∷◌, map, take}
 use Rattle.std.specs.List.{prefix_len}
 use Rattle.bstr.specs.Text.{lines_of, without_terminator}

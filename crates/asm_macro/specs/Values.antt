@@ -1,4 +1,5 @@
 -- The value of the expression of an IF, REPT or EQU line during expansion, or its error. Only names that are constants have a value there.
+-- In words: docs/LANGUAGE.md, section 'REPT and IF'.
 use Rattle.std.specs.Prelude.{ℕ, [], ◌∷◌, List, Result, Ok, Err, if◌then◌else◌}
 use Rattle.std.specs.List.{list_all}
 use Rattle.asm_scan.specs.Tokens.{Lexeme}

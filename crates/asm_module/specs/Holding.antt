@@ -1,4 +1,5 @@
 -- What a module has besides its statements: labels, public labels, externals and an entry.
+-- In words: docs/LANGUAGE.md, section 'Modules'.
 use Rattle.std.specs.Prelude.{ℕ, Bool, true, false, List, [], Option, Some, None, if◌then◌else◌, slice_get}
 use Rattle.std.specs.List.{enumerate_from, filter_map, flat_map, list_any, position_from}
 use Rattle.std.specs.Option.{option_and_then}

@@ -1,4 +1,5 @@
 -- The module of the lines of a source, or its first error.
+-- In words: docs/LANGUAGE.md, section 'Modules'.
 use Rattle.std.specs.Prelude.{ℕ, Bool, List, [], ◌∷◌, Option, map, take}
 use Rattle.std.specs.Option.{option_map}
 use Rattle.zmo_module.specs.declared.module.TheConstants.{LONGEST_NAME}

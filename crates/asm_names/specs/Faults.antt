@@ -1,4 +1,5 @@
 -- The errors of a line, given the lines before it: first each error by itself, then which of them is reported.
+-- In words: docs/LANGUAGE.md, section 'Names, numbers, strings'.
 use Rattle.std.specs.Prelude.{◌≡◌, ℕ, ◌&&◌, Bool, true, false, List, [], ◌∷◌, ◌++◌, Option, Some, None, Result, Ok, Err, if◌then◌else◌, length, count_by, nat_le, nat_lt}
 use Rattle.std.specs.Option.{option_map}
 use Rattle.common.specs.declared.limits.TheConstants.{MOST_NAMES, MOST_STATEMENTS}

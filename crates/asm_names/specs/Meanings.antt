@@ -1,4 +1,5 @@
 -- What the names of a source stand for, whatever the order of its lines, and which errors EQU lines have.
+-- In words: docs/LANGUAGE.md, section 'EQU'.
 use Rattle.std.specs.Prelude.{ℕ, zero, suc, ◌+◌, Bool, List, [], ◌∷◌, Option, Some, None, Result, Ok, Err, map, length, is_none}
 use Rattle.std.specs.Option.{option_map, unwrap_or}
 use Rattle.std.specs.List.{filter_map, list_any, position_from}

@@ -1,4 +1,5 @@
 -- The names of a source: labels, externals, and the names that EQU defines.
+-- In words: docs/LANGUAGE.md, section 'Names, numbers, strings'.
 use Rattle.std.specs.Prelude.{ℕ, Bool, true, false, ◌||◌, List, [], ◌∷◌, ◌++◌, Option, Some, None, if◌then◌else◌, map, is_some}
 use Rattle.std.specs.List.{flat_map, fold}
 use Rattle.std.specs.Map.{lookup}

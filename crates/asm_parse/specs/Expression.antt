@@ -1,4 +1,5 @@
 -- Expressions as trees, and their items in postfix order.
+-- In words: docs/LANGUAGE.md, section 'Expressions'.
 use Rattle.std.specs.Prelude.{◌++◌, List, [], ◌∷◌, Option, Some, None}
 use Rattle.asm_parse.specs.declared.operator.Unary.{Unary}
 use Rattle.asm_parse.specs.declared.operator.Binary.{Binary}

@@ -1,4 +1,5 @@
 -- Which operators divide.
+-- In words: docs/LANGUAGE.md, section 'Expressions'.
 use Rattle.std.specs.Prelude.{Bool, true, false}
 use Rattle.asm_parse.specs.declared.operator.Binary.{Binary}
 

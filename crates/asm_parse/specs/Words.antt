@@ -1,4 +1,5 @@
 -- The operators and parentheses of expressions, as words and marks.
+-- In words: docs/LANGUAGE.md, section 'Expressions'.
 use Rattle.std.specs.Prelude.{ℕ, List, [], ◌∷◌, Option, Some, None, codes}
 use Rattle.common.specs.Words.{first_word}
 use Rattle.asm_parse.specs.declared.operator.Unary.{Unary}

@@ -1,4 +1,5 @@
 -- The arguments of a call.
+-- In words: docs/LANGUAGE.md, section 'Macros'.
 use Rattle.std.specs.Prelude.{ℕ, ◌==◌, ◌&&◌, List, [], ◌∷◌, ◌++◌, if◌then◌else◌}
 use Rattle.asm_scan.specs.Tokens.{Lexeme}
 use Rattle.asm_line.specs.Commas.{open_behind}

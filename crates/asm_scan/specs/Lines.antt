@@ -1,4 +1,5 @@
 -- How a line is cut into tokens.
+-- In words: docs/LANGUAGE.md, section 'Lines'.
 use Rattle.std.specs.Prelude.{◌≡◌, ◌<◌, ◌≤◌, ◌+◌, ℕ, List, [], ◌∷◌, ◌++◌, Result, Ok, Err, length, take, drop}
 use Rattle.std.specs.List.{prefix_len}
 use Rattle.asm_scan.specs.declared.scan.TheConstants.{LONGEST_LINE}

@@ -1,4 +1,5 @@
 -- What a token is, and which error there is if there is no token.
+-- In words: docs/LANGUAGE.md, section 'Names, numbers, strings'.
 use Rattle.std.specs.Prelude.{◌≡◌, ◌≢◌, ◌⊎◌, ℕ, List, [], ◌∷◌, ◌++◌, Some, None, Result, Ok, Err, Vec, Bool, true, false, ◌==◌, if◌then◌else◌, map, codes, All}
 use Rattle.std.specs.Global.{Global}
 use Rattle.std.specs.List.{AllPass, flat_map}

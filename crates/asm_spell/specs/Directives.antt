@@ -1,4 +1,5 @@
 -- Directives and their operands.
+-- In words: docs/LANGUAGE.md, section 'Directives'.
 use Rattle.std.specs.Prelude.{◌==◌, ℕ, Bool, true, false, List, [], ◌∷◌, Option, Some, None, Result, Ok, Err, if◌then◌else◌, codes}
 use Rattle.std.specs.List.{list_any}
 use Rattle.std.specs.Map.{lookup}

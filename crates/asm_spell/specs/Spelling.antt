@@ -1,4 +1,5 @@
 -- The line that tokens are parsed as, or their first error.
+-- In words: docs/LANGUAGE.md, section 'Lines'.
 use Rattle.std.specs.Prelude.{ℕ, Bool, List, [], ◌∷◌, Option, Some, None, Result, Ok, Err, if◌then◌else◌, map}
 use Rattle.std.specs.Option.{option_and_then, option_map}
 use Rattle.std.specs.List.{cons_option, list_any, filter_map}

@@ -1,4 +1,5 @@
 -- What fills a field of one or two bytes: its value, or the error of a value that is out of range.
+-- In words: docs/LANGUAGE.md, section 'What is known when'.
 use Rattle.std.specs.Prelude.{◌≡◌, ℕ, ◌+◌, ◌%◌, Bool, true, false, List, [], ◌∷◌, Option, Some, None, Result, Ok, Err, if◌then◌else◌}
 use Rattle.common.specs.Results.{◌>>=◌}
 use Rattle.asm_parse.specs.declared.fault.ExprFault.{ExprFault}

@@ -1,4 +1,5 @@
 -- What a statement makes once its names are replaced, or the first error of its values.
+-- In words: docs/LANGUAGE.md, section 'Directives'.
 use Rattle.std.specs.Prelude.{◌≢◌, ℕ, zero, suc, ◌-◌, ◌%◌, ◌==◌, ◌&&◌, Bool, false, List, [], ◌∷◌, Option, Some, None, Result, Ok, Err, if◌then◌else◌, All, length, map}
 use Rattle.std.specs.List.{AllPass, flat_map, list_all}
 use Rattle.std.specs.Option.{IfSome}

@@ -1,4 +1,5 @@
 -- How many bytes a statement takes. This depends on its names, but not on addresses.
+-- In words: docs/LANGUAGE.md, section 'Directives'.
 use Rattle.std.specs.Prelude.{◌≡◌, ◌≤◌, ℕ, zero, suc, ◌*◌, List, Option, Some, None, Result, Ok, Err, length}
 use Rattle.std.specs.List.{sum_by}
 use Rattle.asm_expr.specs.declared.answer.Settled.{Settled}

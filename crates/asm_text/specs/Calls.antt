@@ -1,4 +1,5 @@
 -- A call of a macro: the lines of its body with names replaced.
+-- In words: docs/LANGUAGE.md, section 'Macros'.
 use Rattle.std.specs.Prelude.{ℕ, ◌-◌, List, [], ◌∷◌, ◌++◌, Option, Some, None, length, map, take}
 use Rattle.asm_scan.specs.Tokens.{Lexeme}
 use Rattle.asm_line.specs.declared.forms.BlockWord.{BlockWord}

@@ -1,4 +1,5 @@
 -- The roles of lines: whether they open, divide or close a block.
+-- In words: docs/LANGUAGE.md, section 'Macros'.
 use Rattle.std.specs.Prelude.{Bool, not, ◌&&◌, is_some, nat_le, length, List, map}
 use Rattle.asm_line.specs.declared.forms.BlockWord.{BlockWord}
 use Rattle.asm_line.specs.Forms as line

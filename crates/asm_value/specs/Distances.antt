@@ -1,4 +1,5 @@
 -- How far apart statements are.
+-- In words: docs/LANGUAGE.md, section 'What is known when'.
 use Rattle.std.specs.Prelude.{◌≡◌, ℕ, suc, ◌+◌, ◌-◌, ◌%◌, ◌||◌, Bool, true, false, List, Some, if◌then◌else◌, length, take, drop, slice_get, nat_lt, nat_le}
 use Rattle.std.specs.List.{list_any, sum_by}
 use Rattle.asm_value.specs.declared.statement.Statement.{Statement}

@@ -1,4 +1,5 @@
 -- The numbers of an instruction: which of them an operand's expression fills, and the instruction with a number put in.
+-- In words: docs/LANGUAGE.md, section 'Instructions'.
 use Rattle.std.specs.Prelude.{◌≡◌, ◌≢◌, ℕ, zero, suc, ◌-◌, ◌/◌, ◌%◌, Bool, true, false, ◌&&◌, ◌||◌, ◌==◌, nat_lt, nat_le, List, [], ◌∷◌, Option, Some, None, ℤ, map, take, length, All, option_to_list, if◌then◌else◌}
 use Rattle.std.specs.List.{filter_map}
 use Rattle.std.specs.Int.{w8, cast_signed}

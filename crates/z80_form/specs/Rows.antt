@@ -3,6 +3,7 @@
 -- From the Z80 CPU User Manual (Zilog UM0080), "Z80 Instruction Description": the manual's groups, in its order. A row has the
 -- mnemonic and the forms of the operands, without their numbers. If the manual has one row for IX and one for IY, there is one row
 -- here.
+-- In words: docs/LANGUAGE.md, section 'Instructions'.
 use Rattle.std.specs.Prelude.{List, [], ◌∷◌}
 use Rattle.z80_form.specs.Types.{Register, IndexRegister, Memory, Operand, Pointer, RegisterPair, WordRegister, HlOrIndex, Addend, StackOperand, Cond, ShortCond, AluOperation, Instr, Name, Pointed, Form, Mnemonic}
 

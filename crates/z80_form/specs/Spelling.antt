@@ -1,4 +1,5 @@
 -- Which mnemonic and operands are a source form of which instruction.
+-- In words: docs/LANGUAGE.md, section 'Instructions'.
 use Rattle.std.specs.Prelude.{◌≡◌, ◌⊎◌, List, Option, map, pos}
 use Rattle.z80_form.specs.Types.{Instr, Form, Mnemonic}
 use Rattle.z80_form.specs.Rows.{row}

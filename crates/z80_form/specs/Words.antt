@@ -1,6 +1,7 @@
 -- The words of the language that name operations, and those that are operands by themselves, in upper case.
 --
 -- Z80 CPU User Manual (Zilog UM0080), "Z80 Instruction Description".
+-- In words: docs/LANGUAGE.md, section 'Names, numbers, strings'.
 use Rattle.std.specs.Prelude.{ℕ, List, map, codes}
 use Rattle.std.specs.Char.{to_ascii_uppercase}
 use Rattle.z80_instr.specs.declared.AluOperation.{AluOperation}

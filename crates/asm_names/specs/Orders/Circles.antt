@@ -1,4 +1,5 @@
 -- Which things lead to which, given what each names.
+-- In words: docs/LANGUAGE.md, section 'EQU'.
 use Rattle.std.specs.Prelude.{◌≡◌, ◌⊎◌, List}
 use Rattle.std.specs.List.{Contains}
 

@@ -1,4 +1,5 @@
 -- Which statements lines have, by size, and where each line is among them.
+-- In words: docs/LANGUAGE.md, section 'Directives'.
 use Rattle.std.specs.Prelude.{Bool, true, List, Option, Some, None, if◌then◌else◌, is_some, length, map, take}
 use Rattle.std.specs.List.{filter_map}
 use Rattle.std.specs.Option.{option_map}

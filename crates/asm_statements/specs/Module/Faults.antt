@@ -1,4 +1,5 @@
 -- The errors of a line that is not an EQU, once names are settled: each of them, and then which one is reported.
+-- In words: docs/LANGUAGE.md, section 'Modules'.
 use Rattle.std.specs.Prelude.{ℕ, Bool, true, false, not, List, [], ◌∷◌, ◌++◌, Option, Some, None, Result, Ok, Err, is_none}
 use Rattle.std.specs.List.{flat_map, list_any}
 use Rattle.std.specs.Option.{option_to_list}

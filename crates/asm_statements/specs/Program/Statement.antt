@@ -1,4 +1,5 @@
 -- What a parsed line describes in a program, if no error is found in it.
+-- In words: docs/LANGUAGE.md, section 'Directives'.
 use Rattle.std.specs.Prelude.{ℕ, Bool, true, zero, suc, ◌%◌, List, [], ◌∷◌, Option, Some, None, map}
 use Rattle.std.specs.List.{flat_map}
 use Rattle.asm_parse.specs.declared.item.Item.{Item}

@@ -1,4 +1,5 @@
 -- Where blocks end, given the roles of the lines.
+-- In words: docs/LANGUAGE.md, section 'REPT and IF'.
 use Rattle.std.specs.Prelude.{ℕ, zero, suc, ◌-◌, List, [], ◌∷◌, Option, Some, None, take, drop}
 use Rattle.std.specs.Option.{option_map}
 use Rattle.asm_text.specs.declared.matching.Role.{Role}

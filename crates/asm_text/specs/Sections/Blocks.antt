@@ -1,4 +1,5 @@
 -- The blocks that begin with the first of some lines: what is in them, and what comes after them.
+-- In words: docs/LANGUAGE.md, section 'REPT and IF'.
 use Rattle.std.specs.Prelude.{ℕ, ◌+◌, List, [], ◌∷◌, Option, map, take, drop, slice_index_or, sum}
 use Rattle.std.specs.Option.{option_map}
 use Rattle.asm_text.specs.Nesting.Blocks.{Lengths, body_length, branch_lengths}
