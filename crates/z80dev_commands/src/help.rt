@@ -282,7 +282,8 @@ pub(crate) const DEBUG: &str =
 answer to each before it reads the next. The commands step, next, finish and run
 make steps of the program, back, back-next and back-run go back, turn goes to any
 state, and break, watch and who find the place. `help` prints all of them, and
-`quit` ends the session.
+`quit` ends the session. A command may be shortened, as `s` for step. `break` and
+`watch` print what they set.
 
 Nothing is written: what the program writes to its disk is gone at the end. What
 it prints is shown after `| `. What it gets as typed comes from FILE, with each
