@@ -112,7 +112,7 @@ impl<'c, 'a> Misfit<'c, 'a> {
         }
     }
 
-    /// What to write instead of two operands, each of which the mnemonic takes alone.
+    /// What to write instead of two operands, if the mnemonic takes each of them alone.
     fn each_alone(&self) -> Result<Option<String>, AllocError> {
         let alloc = self.case.alloc;
         let word = self.word;

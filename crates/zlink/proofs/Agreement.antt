@@ -1,8 +1,8 @@
 -- The definitions of the linker and those of the checker say the same about a shape, each in its own types.
 use Rattle.std.proofs.Common.{◌≡◌, ℕ, zero, suc, ◌+◌, All, Bool, List, Option, None, Some, Ok, length, map, refl, sym, ap, subst, ◌∙◌, arith}
-use Rattle.std.specs.List.{slice_get}
+use Rattle.std.specs.List.{slice_get, slice_index_or}
 use Rattle.std.specs.Option.{option_map, option_map_or}
-use Rattle.std.proofs.lemmas.List.{length-map}
+use Rattle.std.proofs.lemmas.List.{get_or-map, length-map}
 use Rattle.std.proofs.lemmas.Option.{slice_get-map}
 use Rattle.ruler.specs.declared.shape.Statement.{Statement as Sized}
 use Rattle.ruler.specs.declared.shape.Statement.TheVariants as sized
@@ -150,6 +150,24 @@ shape-there shape is = record {
 
     statements : (xs : List Sized) → All (ruler.IsStatement (length shape)) xs → All (cert.IsStatement (length shape)) (map told_size xs)
     statements xs all = All-map (cert.IsStatement (length shape)) told_size xs (All-weaker (ruler.IsStatement (length shape)) (λ s. cert.IsStatement (length shape) (told_size s)) (one (length shape)) xs all)
+
+-- and a shape by the checker's definition is one by the linker's
+pub shape-back : (shape : List Sized) → cert.IsShape (map told_size shape) → ruler.IsShape shape
+shape-back shape is = record {
+  few = rw (← length-map shape told_size) is.few;
+  each = statements;
+}
+  where
+    one : (n : ℕ) (s : Sized) → cert.IsStatement n (told_size s) → ruler.IsStatement n s
+    one n (sized.Fixed m) ok = ok
+    one n (sized.Jump t) ok = ok
+    one n (sized.Short t) ok = ok
+
+    statements : All (ruler.IsStatement (length shape)) shape
+    statements k d lt =
+        let told = is.each k (told_size d) (rw (length-map shape told_size) lt) in
+        let counted = subst (λ n. cert.IsStatement n (slice_index_or (map told_size shape) k (told_size d))) (length-map shape told_size) told in
+        one (length shape) (slice_index_or shape k d) (subst (cert.IsStatement (length shape)) (get_or-map told_size shape k d (told_size d) lt) counted)
 
 -- the sizes file and the certificate of a growth prove its verdict
 pub certified : (shape : List Sized) (grown : Growth) (sizes text : List ℕ) → growth.IsGrowth shape grown

@@ -12,9 +12,9 @@ ghost use Rattle.zlink.specs.Linked.{IsLinked};
 ghost use Rattle.zlink.specs.Outcomes.{AreSame, built_outcome, linked_outcome};
 ghost use Rattle.zlink.specs.Sources.{Assembly, AreAssembled, modules_of};
 ghost use Rattle.ruler.specs.declared.shape.Statement.{Statement as Sized};
-ghost use Rattle.ruler.specs.Choice.{Choice, Fits, IsBest, IsSettled, IsValid, place, total};
+ghost use Rattle.ruler.specs.Choice.{Choice, Fits, IsBest, IsSettled, IsShape, IsValid, place, total};
 ghost use Rattle.relax.specs.Growth.{IsForcing};
-ghost use Rattle.certificate.specs.Choice.{Fits as ToldFits, IsBest as IsToldBest, IsSettled as IsToldSettled, IsValid as IsToldValid, place as told_place, total as told_total};
+ghost use Rattle.certificate.specs.Choice.{Fits as ToldFits, IsBest as IsToldBest, IsSettled as IsToldSettled, IsShape as IsToldShape, IsValid as IsToldValid, place as told_place, total as told_total};
 ghost use Rattle.certificate.specs.Forcing.{IsForcing as IsToldForcing};
 ghost use Rattle.zlink.specs.Certified.{told_size};
 
@@ -22,9 +22,10 @@ use crate::laws::one_file;
 use asm_module::laws::one_answer;
 use relax::laws::one_growth;
 
-/// The linker and the checker share no definition. Yet they say the same about each shape: the address of each statement, which jumps fit,
-/// which choices are settled, valid and best, how many bytes they take, and which orders are forcing.
+/// The linker and the checker share no definition. Yet they say the same about which lists are shapes; and about each shape: the address of
+/// each statement, which jumps fit, which choices are settled, valid and best, how many bytes they take, and which orders are forcing.
 pub fn shapes_agree()
+    ensures shape { (shape : List Sized) → IsShape shape ↔ IsToldShape (map told_size shape) }
     ensures places { (shape : List Sized) (c : Choice) (k : ℕ) → told_place c (map told_size shape) k ≡ place c shape k }
     ensures total { (shape : List Sized) (c : Choice) → told_total c (map told_size shape) ≡ total c shape }
     ensures fits { (shape : List Sized) (c : Choice) (k : ℕ) → Fits c shape k ↔ ToldFits c (map told_size shape) k }

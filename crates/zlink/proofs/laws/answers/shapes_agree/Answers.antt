@@ -1,5 +1,8 @@
-use Rattle.zlink.proofs.Agreement.{best-back, best-there, fits-back, fits-there, forcing-back, forcing-there, place-same, settled-back, settled-there, total-same, valid-back, valid-there}
+use Rattle.zlink.proofs.Agreement.{best-back, best-there, fits-back, fits-there, forcing-back, forcing-there, place-same, settled-back, settled-there, shape-back, shape-there, total-same, valid-back, valid-there}
 use Rattle.zlink.proofs.laws.answers.shapes_agree.Goals as goal
+
+pub returns-clause-shape : goal.returns-clause-shape
+returns-clause-shape c = λ shape. (shape-there shape, shape-back shape)
 
 pub returns-clause-places : goal.returns-clause-places
 returns-clause-places c = λ shape choice k. place-same choice shape k
