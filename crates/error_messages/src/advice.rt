@@ -13,9 +13,9 @@ const INCLUDED_BYTES: &str = "write the bytes of the file as DB lines";
 const CHANGING: &str =
     "a name keeps its value: use EQU, a macro with a parameter, or write the lines out";
 
-const DEFINED: &str = "`DEBUG EQU 1` (or `build --define DEBUG=1`) and `IF DEBUG`";
+const DEFINED: &str = "`IF DEBUG`, with `DEBUG EQU 1` before it or `build --define DEBUG=1`";
 
-const UNDEFINED: &str = "`DEBUG EQU 0` and `IF DEBUG EQ 0`";
+const UNDEFINED: &str = "`IF DEBUG EQ 0`, with `DEBUG EQU 0` before it or `build --define DEBUG=0`";
 
 const PASSES: &str = "decide it yourself, and write one branch";
 

@@ -209,11 +209,14 @@ fn stray_local(case: &Case<'_>) -> Result<Draft, AllocError> {
             .on_word(owned(alloc, "LOCAL belongs to a macro")?)
             .help(owned(alloc, "leave it out")?);
     }
-    case.on_word(owned(alloc, "LOCAL must be in the first lines of a macro's body")?)
-        .help(owned(
-            alloc,
-            "move it directly below the MACRO line; a blank or comment line before it is too much",
-        )?)
+    case.on_word(owned(
+        alloc,
+        "LOCAL must stand directly below the MACRO line, or below another LOCAL",
+    )?)
+    .help(owned(
+        alloc,
+        "move it there; a blank or comment line before it is too much",
+    )?)
 }
 
 /// The message about a block word in the wrong place.

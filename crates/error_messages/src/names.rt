@@ -276,7 +276,7 @@ pub(crate) fn reserved_name(case: &Case<'_>) -> Result<Draft, AllocError> {
     let text = format!(in alloc; "`{written}` is {what} and cannot be {used}")?;
     case.draft(found, 1, text).help(String::from_str(
         alloc,
-        "rename it: taken are the registers, the conditions NZ, Z, NC, C, PO, PE, P and M, and operators such as AND, EQ and LOW",
+        "rename it: taken are the registers, the conditions NZ, Z, NC, C, PO, PE, P and M, and the operators NOT, HIGH, LOW, MOD, SHL, SHR, AND, OR, XOR, EQ, NE, LT, LE, GT and GE",
     )?)
 }
 

@@ -164,12 +164,17 @@ impl<'c, 'a> Uncut<'c, 'a> {
             let text = format!(in alloc; "{token} is above 65535 (0FFFFH)")?;
             return self.draft(text).help(String::from_str(
                 alloc,
-                "a word holds 0 to 65535, a byte 0 to 255; a larger number takes several",
+                "a word holds up to 65535, a byte up to 255; a larger number takes several words",
             )?);
         };
         if self.is_after_dollar() {
             let text = format!(in alloc; "`{token}` is not a number (`$` is the current address)")?;
-            return self.draft(text).help_if(meant_number(alloc, self.token)?);
+            return match meant_number(alloc, self.token)? {
+                Some(help) => self
+                    .draft(text)
+                    .help(format!(in alloc; "{help}, without `$`")?),
+                None => self.draft(text).help_if(None),
+            };
         }
         let wrong = shown(alloc, &[wrong])?;
         let text = format!(in alloc; "`{token}` is not a number: `{wrong}` is not {name} digit")?;
@@ -430,9 +435,14 @@ impl<'c, 'a> Uncut<'c, 'a> {
         let digits = self.behind();
         if !digits.is_empty() && digits.iter().all(|b| matches!(b, b'0' | b'1')) {
             let number = number_text(alloc, digits, "B")?;
-            return format!(in alloc; "binary is written `{number}`, remainder `MOD`");
+            return format!(in alloc;
+                "binary is written `{number}`, without `%`; the remainder is `MOD`"
+            );
         }
-        String::from_str(alloc, "binary is written `101B`, remainder `MOD`")
+        String::from_str(
+            alloc,
+            "binary is written `101B`, without `%`; the remainder is `MOD`",
+        )
     }
 
     /// The message about a byte that is not ASCII.

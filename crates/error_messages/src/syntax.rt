@@ -178,9 +178,9 @@ fn long_string(case: &Case<'_>, at: usize, text: &[u8]) -> Result<Draft, AllocEr
         return case.draft(at, 1, text).help(help);
     }
     let help = if is_byte(case, at)? {
-        "a byte holds one character, as `'A'`; a string of any length is an item of DB by itself"
+        "a byte holds one character, as `'A'`; write a text with DB, as in `DB 'AB'`"
     } else {
-        "a string of any length is an item of DB by itself; two characters are `'A'*256+'B'`"
+        "write a text with DB, as in `DB 'AB'`; two characters in a word are `'A'*256+'B'`"
     };
     case.draft(at, 1, text).help(String::from_str(alloc, help)?)
 }
@@ -347,7 +347,7 @@ fn after_dollar(
     };
     let written = shown(alloc, token.text)?;
     let text = format!(in alloc; "unexpected `{written}` (`$` is the current address)")?;
-    let help = format!(in alloc; "hexadecimal is written `{number}`")?;
+    let help = format!(in alloc; "hexadecimal is written `{number}`, without `$`")?;
     Ok(Some(case.draft(at, 1, text).help(help)?))
 }
 

@@ -171,7 +171,7 @@ fn defining(case: &Case<'_>, at: usize) -> Result<String, AllocError> {
         Need::Number => return format!(in alloc; "define it, as in `{written} EQU 5`"),
         Need::Byte => {
             return format!(in alloc;
-                "define it, as in `{written} EQU 5`; an address, also one of EXTRN, needs LOW or HIGH in a byte"
+                "define it, as in `{written} EQU 5`; if it is an address, write `LOW {written}` or `HIGH {written}`, since a byte has no room for all of it"
             );
         }
         Need::Address => (),

@@ -1,5 +1,5 @@
 -- All errors of a source.
-use Rattle.std.specs.Prelude.{◌≡◌, ℕ, zero, suc, ◌-◌, ◌==◌, ◌&&◌, not, Bool, List, [], ◌∷◌, ◌++◌, Option, Some, None, Result, Ok, Err, if◌then◌else◌, is_none, length, slice_index_or, take}
+use Rattle.std.specs.Prelude.{◌≡◌, ℕ, zero, suc, ◌-◌, ◌==◌, ◌&&◌, not, Bool, List, [], ◌∷◌, ◌++◌, Option, Some, None, Result, Ok, Err, false, filter, if◌then◌else◌, is_none, is_some, length, slice_index_or, take, true}
 use Rattle.std.specs.List.{filter_map, flat_map, list_any}
 use Rattle.std.specs.Option.{option_map}
 use Rattle.asm_scan.specs.declared.fault.ScanFault.{ScanFault}
@@ -67,10 +67,21 @@ scan_error other lines l =
 abbrev pub scan_errors : ℕ → List Numbered → List ℕ → List Finding
 scan_errors other lines text = filter_map (scan_error other lines) (numbered 1 (source_lines text))
 
+abbrev pub is_circle : Why → Bool
+is_circle Why.EquCircle = true
+is_circle why = false
+
+-- An EQU line that cannot be cut into tokens counts as a circle, so that its name has no value. The source has no such circle.
+abbrev pub is_made_circle : List ℕ → Finding → Bool
+is_made_circle text f = is_circle f.why && is_some (scan_fault (line_at text f.line.number))
+
+abbrev pub without_made_circles : List ℕ → List Finding → List Finding
+without_made_circles text found = filter (λ f. not (is_made_circle text f)) found
+
 -- All errors of a source: those of the lines of its expansion; or if that stops, this error, and if it stops for tokens, those of the
 -- expansion in which lines that cannot be cut into tokens are mended.
 pub data AreFindings (grow : Bool) (text : List ℕ) : List Finding → Type 0 where
   whole : {lines : List Numbered} {found : List Finding} → IsExpanded text (Ok lines) → AreErrors grow lines found → AreFindings grow text found
   stopped : {number : ℕ} (why : MacroFault) → IsExpanded text (Err (number, why)) → AreFindings grow text (plain number (line_at text number) (macro_why why) ∷ [])
   mends : {number : ℕ} {lines : List Numbered} {found : List Finding} (why : MacroFault) → IsExpanded text (Err (number, why)) → IsExpanded (mended_text text) (Ok lines) → AreErrors grow lines found
-      → AreFindings grow text (plain number (line_at text number) (macro_why why) ∷ scan_errors number lines text ++ found)
+      → AreFindings grow text (plain number (line_at text number) (macro_why why) ∷ scan_errors number lines text ++ without_made_circles text found)

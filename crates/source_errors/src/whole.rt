@@ -15,7 +15,7 @@ ghost use Rattle.source_errors.specs.Private.State.{IsCounting, counted_in, why_
 use crate::counting::{Counting, count_lines};
 use crate::finding::{Finding, Findings, Known};
 use crate::judging::judge_lines;
-use crate::scanning::{mended_text, put_scan_errors};
+use crate::scanning::{leave_made_circles_out, mended_text, put_scan_errors};
 use asm_macro::{Expanded, MacroFault, expand, source_part};
 use asm_module::Why;
 use asm_names::{NameFault, names_of};
@@ -161,6 +161,7 @@ fn stopped(
                 findings: mut others,
                 known,
             } = rest;
+            leave_made_circles_out(alloc, &lines, &mut others)?;
             findings.append(&mut others)?;
             Ok(Findings { findings, known })
         }

@@ -27,7 +27,7 @@ again_text first = codes "line " ++ (decimal first ++ codes " has it already: le
 
 -- what to do about it
 abbrev pub help_text : Kind → List ℕ
-help_text kind.UnusedLabel = codes "leave out the label, if the statement is reached without it"
+help_text kind.UnusedLabel = codes "a label that no line uses may be left out"
 help_text kind.UnusedExternal = codes "leave out its EXTRN"
 help_text (kind.PublicAgain first) = again_text first
 help_text (kind.ExternalAgain first) = again_text first

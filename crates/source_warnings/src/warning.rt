@@ -75,7 +75,7 @@ impl SourceWarning {
         match self.kind {
             Kind::UnusedLabel => String::from_str(
                 alloc,
-                "leave out the label, if the statement is reached without it",
+                "a label that no line uses may be left out",
             ),
             Kind::UnusedExternal => String::from_str(alloc, "leave out its EXTRN"),
             Kind::PublicAgain(first) | Kind::ExternalAgain(first) => {

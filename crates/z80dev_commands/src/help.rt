@@ -114,9 +114,9 @@ path, line, column, severity, name, text and notes; docs/FORMATS.md describes
 it.
 
 The status is 0 if there is a program and no warning, and 1 if there is an error
-or a warning; then a line `error: 3 errors` or `error: 1 warning` on standard
-error has the number. It is 3 if a file cannot be read or standard output fails,
-and 2 if a word of the command is wrong.
+or a warning; then a line on standard error has the number: `error: 3 errors` or
+`error: 1 warning, no error`. It is 3 if a file cannot be read or standard output
+fails, and 2 if a word of the command is wrong.
 
 Example: z80dev explain main.asm print.asm";
 

@@ -19,7 +19,7 @@ count_text count what = if count == 1 then codes "1 " ++ what else decimal count
 -- how many errors there are; or if there is a program, how many warnings, if there are some
 abbrev pub summary_of : Bool → List Report → Option (List ℕ)
 summary_of false reports = Some (count_text (length reports) (codes "error"))
-summary_of true reports = if length reports == 0 then None else Some (count_text (length reports) (codes "warning"))
+summary_of true reports = if length reports == 0 then None else Some (count_text (length reports) (codes "warning") ++ codes ", no error")
 
 -- This text is that of the reports, followed by that of the notes about long jumps.
 abbrev pub IsPrintedWith : Form → List Report → List Report → List ℕ → Type 0

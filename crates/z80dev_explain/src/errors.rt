@@ -178,7 +178,7 @@ impl<'s, 'f> Faulty<'s, 'f> {
             "was to close it"
         };
         notes.push(Note::Note(format!(in alloc;
-            "the {word} at {path}:{number} {role}: building stops there, as no block is open"
+            "the {word} at {path}:{number} {role}, so `build` stops there"
         )?))?;
         let site = Site {
             line,

@@ -15,7 +15,7 @@ use z80dev_make::{Front, SourceFile};
 pub struct Explanation {
     /// What is printed on standard output.
     pub text: Vec<u8>,
-    /// How many errors or warnings there are, as `3 errors` or `1 warning`; None if there is a program and no warning.
+    /// How many errors or warnings there are, as `3 errors` or `1 warning, no error`; None if there is a program and no warning.
     pub summary: Option<String>,
 }
 
@@ -46,7 +46,8 @@ fn summary(
     if reports.is_empty() {
         return Ok(None);
     }
-    Ok(Some(counted(alloc, reports.len(), "warning")?))
+    let warnings = counted(alloc, reports.len(), "warning")?;
+    Ok(Some(format!(in alloc; "{warnings}, no error")?))
 }
 
 /// Builds sources after a front, writes nothing, and answers what the command `explain` prints of them, and how it sums that up.

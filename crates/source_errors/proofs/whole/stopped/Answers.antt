@@ -29,9 +29,10 @@ returns-in-Ok c =
     let scans = c.in_ok-put_scan_errors-in-Ok.ensures c.args.text.now lines_are in
     let stop = plain c.args.number (line_at c.args.text.now c.args.number) (macro_why c.args.why) in
     let seen = lines_seen c.in-Ok.expanded.lines.items in
-    subst (AreFindings c.args.grow c.args.text.now)
-    (sym (all_found c.append.new.self.items c.put_scan_errors.new.findings.items c.in_ok-rest-in-Ok.rest.findings.items stop (scan_errors c.args.number seen c.args.text.now) c.in_ok-append-in-Ok.ensures.items
+    let others = c.in_ok-leave_made_circles_out-in-Ok.ensures c.args.text.now lines_are in
+    let all = all_found c.append.new.self.items c.put_scan_errors.new.findings.items c.leave_made_circles_out.new.findings.items stop (scan_errors c.args.number seen c.args.text.now) c.in_ok-append-in-Ok.ensures.items
     (scans
     ∙ ap (λ xs. xs ++ scan_errors c.args.number (lines_seen c.deref-in-Ok.result.now) c.args.text.now) first
-    ∙ ap (λ es. (stop ∷ []) ++ scan_errors c.args.number (lines_seen es) c.args.text.now) c.deref-in-Ok.ensures.value)))
+    ∙ ap (λ es. (stop ∷ []) ++ scan_errors c.args.number (lines_seen es) c.args.text.now) c.deref-in-Ok.ensures.value) in
+    subst (AreFindings c.args.grow c.args.text.now) (sym (all ∙ ap (λ fs. stop ∷ scan_errors c.args.number seen c.args.text.now ++ fs) others))
     (whole.mends c.args.why c.requires (subst (λ t. IsExpanded t (Ok seen)) (c.deref.ensures.value ∙ c.in_ok-mended.ensures c.args.text.now lines_are) c.in-Ok.ensures) c.in_ok-rest-in-Ok.ensures)
