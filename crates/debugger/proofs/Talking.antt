@@ -10,15 +10,19 @@ use Rattle.debugger.specs.Conversation.{BeginsLines, HasNoEnd, SessionState, Tal
 use Rattle.debugger.specs.Conversation.Talks.{none, more}
 use Rattle.debugger.specs.Labelled.{Known}
 use Rattle.debugger.specs.Private.Lines.{IsNextLine, TakesAllLines, TakesLines}
-use Rattle.debugger.specs.Session.{Obeys}
+use Rattle.debugger.specs.Session.{IsSameRun, Obeys}
+use Rattle.debugger.specs.Walk.{IsTrue_of_run, LeadsBy, Point, Shown, first_point, never}
+use Rattle.debugger.specs.Walk.LeadsBy.{none as stays}
 
 pub silent : (known : Known) (listing : List ℕ) (t : SessionState) (s : Stream) → TalksOn known listing [] t t s s
-silent known listing t s = ([], none t, Appends-nil s.bytes)
+silent known listing t s = ([], none t, Appends-nil s.bytes, λ held. (held, refl))
 
 -- one line
 pub one_line : (known : Known) (listing line : List ℕ) (old new : SessionState) (a b : Stream) (text : List ℕ) → old.is_over ≡ false
-    → Obeys known listing line old.shown old.stops old.is_over new.shown new.stops new.is_over text → Appends a.bytes b.bytes text → TalksOn known listing (line ∷ []) old new a b
-one_line known listing line old new a b text going obeys prints = (text, more old old new [] line [] text (none old) going obeys, prints)
+    → Obeys known listing line old.shown old.stops old.is_over new.shown new.stops new.is_over text → Appends a.bytes b.bytes text → b.held ≡ false
+    → TalksOn known listing (line ∷ []) old new a b
+one_line known listing line old new a b text going obeys prints handed =
+    (text, more old old new [] line [] text (none old) going obeys, prints, λ held. absurd (true≢false (sym held ∙ handed)))
 
 joined : (known : Known) (listing : List ℕ) (old : SessionState) {mid new : SessionState} (firsts : List (List ℕ)) {lines : List (List ℕ)} (first : List ℕ) {said : List ℕ}
     → Talks known listing old firsts first mid → Talks known listing mid lines said new → Talks known listing old (firsts ++ lines) (first ++ said) new
@@ -32,8 +36,24 @@ joined known listing old firsts first before (more from mid new lines line said 
 -- more lines
 pub talk_on : (known : Known) (listing : List ℕ) (firsts lines : List (List ℕ)) (old mid new : SessionState) (a b c : Stream)
     → TalksOn known listing firsts old mid a b → TalksOn known listing lines mid new b c → TalksOn known listing (firsts ++ lines) old new a c
-talk_on known listing firsts lines old mid new a b c before after =
-    (before.0 ++ after.0, joined known listing old firsts before.0 before.1 after.1, Appends-trans a.bytes b.bytes c.bytes before.0 after.0 before.2 after.2)
+talk_on known listing firsts lines old mid new a b c before after = (
+  before.0 ++ after.0,
+  joined known listing old firsts before.0 before.1 after.1,
+  Appends-trans a.bytes b.bytes c.bytes before.0 after.0 before.2 after.2,
+  λ held. let late = after.3 held in let early = before.3 late.0 in (early.0, ap (λ (ls : List (List ℕ)). ls ++ lines) early.1 ∙ late.1),
+)
+
+-- whatever lines are obeyed, the same run is shown
+pub same_run : (known : Known) (listing : List ℕ) (old : SessionState) {lines : List (List ℕ)} {said : List ℕ} {new : SessionState} → IsTrue_of_run old.shown
+    → Talks known listing old lines said new → IsSameRun old.shown new.shown
+same_run known listing old is (none t) = (refl, is)
+same_run known listing old is (more from mid new lines line said text talk going obeys) = (obeys.0.0 ∙ (same_run known listing old is talk).0, obeys.0.1)
+
+-- what is shown first is true of its run
+pub first_is_true : (shown : Shown) → shown.turn ≡ 0 → shown.point ≡ first_point shown.start → IsTrue_of_run shown
+first_is_true shown at_0 is_first =
+    subst (λ (n : ℕ). LeadsBy never n (first_point shown.start) shown.point) (sym at_0)
+    (subst (λ (p : Point). LeadsBy never 0 (first_point shown.start) p) (sym is_first) (stays (first_point shown.start)))
 
 -- ---- the lines of bytes
 

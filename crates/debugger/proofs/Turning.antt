@@ -7,7 +7,7 @@ use Rattle.cpm_run.specs.declared.ending.Why.{Why}
 use Rattle.cpm_console.specs.Dialog.{Dialog}
 use Rattle.cpm_disk.specs.Image.{Image}
 use Rattle.debugger.specs.Private.Typing.{HasTyped}
-use Rattle.debugger.specs.Walk.{MakesTurn, MemoryState, TypesAndSteps, due_in, run_of, with_typed}
+use Rattle.debugger.specs.Walk.{MakesTurn, MemoryState, due_in, run_of, with_typed}
 
 abbrev pub Steps : RunState Image Dialog → Option Why → RunState Image Dialog → Type 0
 Steps old end new = IsTurn (λ image. image) (λ image. 0) (λ dialog. dialog) old end new

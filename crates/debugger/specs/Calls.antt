@@ -1,6 +1,7 @@
 -- Calls and the places that they return to.
 use Rattle.std.specs.Prelude.{◌≡◌, ◌+◌, ◌==◌, ◌&&◌, ◌||◌, ◌%◌, ◌⊎◌, ℕ, Bool, true, false, nat_le, Option, Some, None, if◌then◌else◌}
 use Rattle.z80_cpu.specs.State.{byte_at, up_by}
+use Rattle.cpm_run.specs.Turns.{Call, Entry, Place, Program, place_at_pc}
 use Rattle.debugger.specs.declared.calls.ReturnPlace.{ReturnPlace}
 use Rattle.debugger.specs.Walk.{IsAfter, IsNextPoint, LeadsBy, Point, MemoryState, first_point}
 
@@ -8,12 +9,18 @@ use Rattle.debugger.specs.Walk.{IsAfter, IsNextPoint, LeadsBy, Point, MemoryStat
 abbrev pub call_size : ℕ → ℕ
 call_size opcode = if nat_le 0xC0 opcode && ((opcode % 8 == 4) || (opcode == 0xCD)) then 3 else (if nat_le 0xC0 opcode && (opcode % 8 == 7) then 1 else 0)
 
+-- a place at which the system acts and no instruction of the program is carried out: the BDOS, or an entry of the BIOS
+abbrev pub is_of_system : Place → Bool
+is_of_system Program = false
+is_of_system Call = true
+is_of_system (Entry n) = true
+
 -- where the call at PC returns to, if one is there: the instruction after it, with SP as it is
 abbrev pub call_place : MemoryState → Option ReturnPlace
 call_place s =
     let cpu = s.machine.cpu in
     let size = call_size (byte_at cpu.pc s.machine.memory) in
-    if size == 0 then None else Some (record { address = up_by size cpu.pc; sp = cpu.sp })
+    if is_of_system (place_at_pc cpu.pc) || (size == 0) then None else Some (record { address = up_by size cpu.pc; sp = cpu.sp })
 
 -- PC and SP in a state
 abbrev pub shown_place : MemoryState → ReturnPlace

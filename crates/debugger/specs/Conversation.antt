@@ -51,9 +51,14 @@ pub data Talks (known : Known) (listing : List ℕ) : SessionState → List (Lis
   more : (old mid new : SessionState) (lines : List (List ℕ)) (line said text : List ℕ) → Talks known listing old lines said mid → mid.is_over ≡ false
       → Obeys known listing line mid.shown mid.stops mid.is_over new.shown new.stops new.is_over text → Talks known listing old (lines ++ line ∷ []) (said ++ text) new
 
--- the same, and the answers were printed
+-- After some lines a buffer holds nothing back. If there are no lines, it may hold what it held before.
+abbrev pub HandsOut : List (List ℕ) → Stream → Stream → Type 0
+HandsOut lines before after = after.held ≡ true → (before.held ≡ true) × (lines ≡ [])
+
+-- The lines were obeyed, and the answers were printed. None of their bytes is held back.
 abbrev pub TalksOn : Known → List ℕ → List (List ℕ) → SessionState → SessionState → Stream → Stream → Type 0
-TalksOn known listing lines old new before after = (said : List ℕ) × Talks known listing old lines said new × Appends before.bytes after.bytes said
+TalksOn known listing lines old new before after =
+    (said : List ℕ) × Talks known listing old lines said new × Appends before.bytes after.bytes said × HandsOut lines before after
 
 -- ---- the lines of what is read
 

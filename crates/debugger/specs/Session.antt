@@ -19,14 +19,14 @@ use Rattle.debugger.specs.Labelled.{Known}
 use Rattle.debugger.specs.Stops.{IsLast}
 use Rattle.debugger.specs.Text.{Says}
 use Rattle.debugger.specs.Typed.{Reading, line_meaning, refusal_line}
-use Rattle.debugger.specs.Walk.{Shown}
+use Rattle.debugger.specs.Walk.{IsTrue_of_run, Shown}
 
 -- the number of the last turn that can be counted
 abbrev pub last_turn : ℕ
 last_turn = 2 ^ 64 - 1
 
--- Many turns are made, until a breakpoint or a watched byte holds, the goal is reached, the run has ended, or as many as one command makes are
--- made. The answer is how it ended.
+-- Turns are made until a breakpoint or a watched byte holds, the goal is reached, or the run ends; at most MOST_TURNS. The answer is which of
+-- these it was.
 abbrev pub RunsOn : Option Goal → Stops → Shown → Shown → Option Outcome → Type 0
 RunsOn goal stops old new told = (outcome : Outcome) × (told ≡ Some outcome) × RanUntil goal stops (min MOST_TURNS (last_turn - old.turn)) old new outcome
 
@@ -93,10 +93,14 @@ is_quit command = false
 -- answer says why.
 abbrev pub AnswersAs : Reading (Option Command) → Known → List ℕ → Shown → Stops → Bool → Shown → Stops → Bool → List ℕ → Type 0
 AnswersAs (Ok (Some command)) known listing shown stops over new there is_over text =
-    (told : Option Outcome) × Moves command stops shown new told × Sets command stops there × (is_over ≡ (over || is_quit command)) × Says command stops new known listing text
+    (told : Option Outcome) × Moves command stops shown new told × Sets command stops there × (is_over ≡ (over || is_quit command)) × Says command stops told shown new known listing text
 AnswersAs (Ok None) known listing shown stops over new there is_over text = (new ≡ shown) × (there ≡ stops) × (is_over ≡ over) × (text ≡ [])
 AnswersAs (Err refused) known listing shown stops over new there is_over text = (new ≡ shown) × (there ≡ stops) × (is_over ≡ over) × (text ≡ refusal_line refused)
 
--- A line is answered by what it means.
+-- What is shown later is a point of the same run, after its number of turns.
+abbrev pub IsSameRun : Shown → Shown → Type 0
+IsSameRun old new = (new.start ≡ old.start) × IsTrue_of_run new
+
+-- A line is answered by what it means, and what is shown stays true of the run.
 abbrev pub Obeys : Known → List ℕ → List ℕ → Shown → Stops → Bool → Shown → Stops → Bool → List ℕ → Type 0
-Obeys known listing line shown stops over new there is_over text = AnswersAs (line_meaning known line) known listing shown stops over new there is_over text
+Obeys known listing line shown stops over new there is_over text = IsSameRun shown new × AnswersAs (line_meaning known line) known listing shown stops over new there is_over text

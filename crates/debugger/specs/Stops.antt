@@ -1,10 +1,11 @@
 -- Breakpoints and watched bytes, and the turns at which they hold.
 use Rattle.std.specs.Prelude.{◌≡◌, ◌+◌, ◌%◌, ◌==◌, ◌&&◌, ◌||◌, ℕ, Bool, false, true, not, List, Option, Some, None, find, if◌then◌else◌, is_some, nat_le, nat_lt, option_map}
 use Rattle.std.specs.Option.{option_or}
-use Rattle.cpm_run.specs.Turns.{Call, Entry, Place, Program, place_at_pc}
+use Rattle.cpm_run.specs.Turns.{Place, place_at_pc}
 use Rattle.cpm_run.specs.declared.ending.Why.{Why}
 use Rattle.z80_cpu.specs.State.{af, bc, byte_at, de, hl, up_by}
 use Rattle.z80_cpu.specs.declared.registers.Cpu.{Cpu}
+use Rattle.debugger.specs.Calls.{is_of_system}
 use Rattle.debugger.specs.declared.stops.Breakpoint.{Breakpoint}
 use Rattle.debugger.specs.declared.stops.Change.{Change}
 use Rattle.debugger.specs.declared.stops.Condition.{Condition}
@@ -54,9 +55,7 @@ is_return_code first second = (first == 0xC9) || ((nat_le 0xC0 first && (first %
 
 -- whether a turn that begins here may return: at a return, and at a call of the system, which returns to its caller
 abbrev pub may_return : Place → ℕ → ℕ → Bool
-may_return Program first second = is_return_code first second
-may_return Call first second = true
-may_return (Entry n) first second = true
+may_return place first second = is_of_system place || is_return_code first second
 
 -- SP after the return, if a turn that begins in this state may be one
 abbrev pub sp_returned : MemoryState → Option ℕ

@@ -1,15 +1,18 @@
 -- What is printed for the commands that show something.
-use Rattle.std.specs.Prelude.{◌≡◌, ◌+◌, ◌==◌, ◌&&◌, ℕ, Bool, List, [], ◌∷◌, ◌++◌, Option, Some, None, codes, decimal, find, if◌then◌else◌, length, map, nat_eq, nat_lt}
+use Rattle.std.specs.Prelude.{◌≡◌, ◌+◌, ◌==◌, ◌&&◌, ℕ, Bool, List, [], ◌∷◌, ◌++◌, Option, Some, None, codes, decimal, drop, filter, find, if◌then◌else◌, length, map, nat_eq, nat_lt, not}
 use Rattle.std.specs.List.{flat_map, starts_with}
 use Rattle.bstr.specs.Text.{lines_of, without_terminator}
 use Rattle.cpm_run.specs.Turns.{bdos}
 use Rattle.hex.specs.Hex.{encode_upper}
 use Rattle.z80_cpu.specs.State.{up_by}
 use Rattle.debugger.specs.Printing.Columns.{word_text}
-use Rattle.debugger.specs.Printing.Memory.{memory_text}
+use Rattle.debugger.specs.Printing.Memory.{memory_text, shown_character}
 use Rattle.debugger.specs.Printing.Registers.{registers_text}
 use Rattle.debugger.specs.declared.command.Command.{Command}
 use Rattle.debugger.specs.declared.command.Command.TheVariants as command
+use Rattle.debugger.specs.declared.history.Outcome.{Outcome}
+use Rattle.debugger.specs.declared.history.Outcome.TheVariants as outcome
+use Rattle.debugger.specs.declared.session.TheConstants.{MOST_TURNS}
 use Rattle.debugger.specs.declared.stops.Breakpoint.{Breakpoint}
 use Rattle.debugger.specs.declared.stops.Change.{Change}
 use Rattle.debugger.specs.declared.stops.Condition.{Condition}
@@ -105,6 +108,11 @@ who_text known address other = unchanged_line known address
 abbrev pub Watches : ℕ → Stops → Type 0
 Watches address stops = (stops.breakpoints.items ≡ []) × (stops.watches.items ≡ address ∷ [])
 
+-- The last turn that changed a byte, up to the one that is shown.
+abbrev pub SaysWho : ℕ → Shown → Known → List ℕ → Type 0
+SaysWho address shown known text =
+    (watching : Stops) × (last : Option (ℕ × Hit)) × Watches address watching × IsLast watching shown shown.turn last × (text ≡ who_text known address last)
+
 -- ---- `where`
 
 -- the first line of a listing that begins with these digits
@@ -119,16 +127,60 @@ listing_text (Some line) = line ++ codes "\n"
 abbrev pub where_text : Known → List ℕ → ℕ → List ℕ
 where_text known listing address = labelled_address known address ++ codes "\n" ++ listing_text (line_with listing (word_text address))
 
--- ---- what a command prints, given the breakpoints and watched bytes before it and what is shown after it; of the other commands this says nothing
-abbrev pub Says : Command → Stops → Shown → Known → List ℕ → List ℕ → Type 0
-Says command.Registers stops shown known listing text = text ≡ registers_text shown.point.state.machine.cpu shown.point.state.system.dma shown.point.state.system.user
-Says (command.Memory from count) stops shown known listing text = text ≡ memory_text shown.point.state.machine.memory from count
-Says command.Where stops shown known listing text = text ≡ where_text known listing shown.point.state.machine.cpu.pc
-Says (command.Who address) stops shown known listing text =
-    (watching : Stops) × (last : Option (ℕ × Hit)) × Watches address watching × IsLast watching shown shown.turn last × (text ≡ who_text known address last)
-Says (command.Break breakpoint) stops shown known listing text = text ≡ breakpoint_line known breakpoint
-Says (command.Watch from count) stops shown known listing text = text ≡ watch_line known from count
-Says command.Delete stops shown known listing text = text ≡ stops_text (codes "deleted ") known stops
-Says command.Info stops shown known listing text = text ≡ stops_text [] known stops
-Says command.Quit stops shown known listing text = text ≡ []
-Says other stops shown known listing text = Unit {0}
+-- ---- what the program has printed
+
+abbrev pub printed_line : List ℕ → List ℕ
+printed_line line = codes "| " ++ map shown_character line ++ codes "\n"
+
+-- these bytes without CR, each line of them after `| `
+abbrev pub output_text : List ℕ → List ℕ
+output_text bytes = flat_map printed_line (map without_terminator (lines_of (filter (λ byte. not (byte == 0x0D)) bytes)))
+
+-- These are all the bytes that the program has printed.
+abbrev pub Printed : Shown → List ℕ → Type 0
+Printed shown bytes = shown.point.state.system.terminal.console.output ≡ Some bytes
+
+-- the bytes that come after as many as these; none after going back to a time when there were fewer
+abbrev pub since : List ℕ → List ℕ → List ℕ
+since before now = drop (length before) now
+
+-- ---- the commands that go to another turn
+
+-- why such a command has stopped before the end of the run, unless it has come to where it was to come
+abbrev pub outcome_text : Known → Option Outcome → List ℕ
+outcome_text known (Some (outcome.Held (hit.Breakpoint address))) = codes "breakpoint " ++ labelled_address known address ++ codes "\n"
+outcome_text known (Some (outcome.Held (hit.Changed change))) = codes "watch " ++ change_line known change
+outcome_text known (Some outcome.Limit) = codes "limit of " ++ decimal MOST_TURNS ++ codes " turns\n"
+outcome_text known told = []
+
+-- the line of a point: its number of turns, PC, and what is there, which may be any text
+abbrev pub point_line : Known → ℕ → ℕ → List ℕ → List ℕ
+point_line known turn pc what = codes "turn " ++ decimal turn ++ codes " at " ++ labelled_address known pc ++ codes ": " ++ what ++ codes "\n"
+
+-- What the program has printed since, why the command has stopped, and what is shown now.
+abbrev pub SaysWhere : Option Outcome → Shown → Shown → Known → List ℕ → Type 0
+SaysWhere told old new known text =
+    (before : List ℕ) × (now : List ℕ) × (what : List ℕ) × Printed old before × Printed new now × (text ≡ output_text (since before now) ++ outcome_text known told ++ point_line known new.turn new.point.state.machine.cpu.pc what)
+
+-- ---- what a command prints, given the breakpoints and watched bytes before it, how it ended, and what is shown before and after it. Of `dis`,
+-- `stack`, `files` and `help` this says nothing.
+abbrev pub Says : Command → Stops → Option Outcome → Shown → Shown → Known → List ℕ → List ℕ → Type 0
+Says command.Registers stops told old shown known listing text = text ≡ registers_text shown.point.state.machine.cpu shown.point.state.system.dma shown.point.state.system.user
+Says (command.Memory from count) stops told old shown known listing text = text ≡ memory_text shown.point.state.machine.memory from count
+Says command.Where stops told old shown known listing text = text ≡ where_text known listing shown.point.state.machine.cpu.pc
+Says (command.Who address) stops told old shown known listing text = SaysWho address shown known text
+Says (command.Break breakpoint) stops told old shown known listing text = text ≡ breakpoint_line known breakpoint
+Says (command.Watch from count) stops told old shown known listing text = text ≡ watch_line known from count
+Says command.Delete stops told old shown known listing text = text ≡ stops_text (codes "deleted ") known stops
+Says command.Info stops told old shown known listing text = text ≡ stops_text [] known stops
+Says command.Quit stops told old shown known listing text = text ≡ []
+Says command.Output stops told old shown known listing text = (bytes : List ℕ) × Printed shown bytes × (text ≡ output_text bytes)
+Says (command.Step count) stops told old shown known listing text = SaysWhere told old shown known text
+Says (command.Back count) stops told old shown known listing text = SaysWhere told old shown known text
+Says (command.Turn turn) stops told old shown known listing text = SaysWhere told old shown known text
+Says (command.Run address) stops told old shown known listing text = SaysWhere told old shown known text
+Says command.Next stops told old shown known listing text = SaysWhere told old shown known text
+Says command.Finish stops told old shown known listing text = SaysWhere told old shown known text
+Says command.BackRun stops told old shown known listing text = SaysWhere told old shown known text
+Says command.BackNext stops told old shown known listing text = SaysWhere told old shown known text
+Says other stops told old shown known listing text = Unit {0}

@@ -36,7 +36,7 @@ is_typed_word part = nat_lt 0 (length part)
 abbrev pub line_words : List ℕ → List (List ℕ)
 line_words line = filter is_typed_word (slice_split is_ascii_whitespace line)
 
--- what is before and after the first of these bytes in a word
+-- what is before and what is after the first place of this byte in a word
 abbrev pub cut : ℕ → List ℕ → Option (List ℕ × List ℕ)
 cut byte word = option_map (λ at. (take at word, drop (at + 1) word)) (position (λ b. b == byte) word)
 

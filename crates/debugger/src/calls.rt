@@ -1,9 +1,11 @@
 //! Calls and the places that they return to.
 
 ghost use Rattle.std.specs.Prelude.{◌≡◌, Some, None, if◌then◌else◌};
-ghost use Rattle.debugger.specs.Calls.{call_place, call_size, calls, is_at, is_same_place, shown_place};
+ghost use Rattle.cpm_run.specs.Turns.{place_at_pc};
+ghost use Rattle.debugger.specs.Calls.{call_place, call_size, calls, is_at, is_of_system, is_same_place, shown_place};
 
 use crate::snapshot::Snapshot;
+use cpm_run::{BDOS, bios_entry};
 
 /// A place in a program: PC and SP.
 #[derive(Clone, Copy, Debug, PartialEq, Eq)]
@@ -25,13 +27,20 @@ fn call_size(opcode: u8) -> u16
     }
 }
 
+/// Whether the system acts at this address, so that no instruction of the program is carried out there.
+pub(crate) fn is_of_system(pc: u16) -> bool
+    ensures { result ≡ is_of_system (place_at_pc pc) }
+{
+    pc == BDOS || bios_entry(pc).is_some()
+}
+
 /// Where the call at PC returns to, if one is there.
 pub(crate) fn call_place(snapshot: &Snapshot<'_>) -> Option<ReturnPlace>
     ensures { result ≡ call_place snapshot.now }
 {
     let cpu = snapshot.cpu();
     let size = call_size(snapshot.memory().get(cpu.pc));
-    if size == 0 {
+    if is_of_system(cpu.pc) || size == 0 {
         None
     } else {
         Some(ReturnPlace {

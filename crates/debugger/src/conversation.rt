@@ -63,6 +63,7 @@ fn answer_line<O: Sink>(
     ensures listing { session.new.listing ≡ session.old.listing }
     ensures obeys { IfOk result (λ _. (text : List ℕ) × Obeys session.old.labels session.old.listing.now line.now session.old.history session.old.stops session.old.is_over session.new.history session.new.stops session.new.is_over text
         × Appends (O.stream output.old).bytes (O.stream output.new).bytes text) }
+    ensures handed { IfOk result (λ _. (O.stream output.new).held ≡ false) }
 {
     let answer = session.answer(line)?;
     match print(output, &answer) {

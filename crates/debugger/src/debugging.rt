@@ -16,8 +16,8 @@ use cpm_run::{Arrival, StartFault};
 use std::alloc::Global;
 use streams::{Input, Sink};
 
-/// A program with its words, its disk, what is typed before it starts, the bytes of a record, each of which comes after its number of turns, and
-/// its listing, empty if there is none.
+/// A program with its words, its disk, what is typed before it starts, the bytes of a record, and its listing, empty if there is none. Each
+/// byte of the record comes after its number of turns.
 #[derive(Drop)]
 pub struct Program<'a> {
     pub file: &'a [u8],

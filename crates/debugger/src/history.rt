@@ -243,7 +243,7 @@ impl<'a> History<'a> {
         let mut point = Point::first(self.start.copied(alloc)?);
         let mut last = None;
         for number in 0..turn {
-            // The run had more turns when they were made first, so memory has run out for its output.
+            // These turns were made before, so this run ends early only if memory has run out for its output.
             if point.end().is_some() {
                 return Err(AllocError);
             }
@@ -270,7 +270,7 @@ impl<'a> History<'a> {
         let mut point = Point::first(self.start.copied(alloc)?);
         let mut call = None;
         for number in 0..self.turn {
-            // The run had more turns when they were made first, so memory has run out for its output.
+            // These turns were made before, so this run ends early only if memory has run out for its output.
             if point.end().is_some() {
                 return Err(AllocError);
             }

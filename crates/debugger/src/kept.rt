@@ -35,7 +35,7 @@ fn next_multiple(turn: u64, distance: u64) -> u64 {
     turn.saturating_sub(over).saturating_add(distance)
 }
 
-/// States of one run, in their order. Their numbers are multiples of the distance, or were when they were kept.
+/// States of one run, in their order.
 #[derive(Drop)]
 pub(crate) struct Keeper<'a> {
     pub states: Vec<Kept<'a>>,

@@ -4,7 +4,7 @@ ghost use Rattle.std.specs.Prelude.{◌≡◌, ℕ, [], List, Ok, Option, Some};
 ghost use Rattle.cpm_bdos.specs.Alike.{AlikeDisks};
 ghost use Rattle.cpm_disk.specs.Calls.{Mounted};
 ghost use Rattle.cpm_disk.specs.Image.{Image};
-ghost use Rattle.cpm_console.specs.Dialog.{dialog_of};
+ghost use Rattle.cpm_console.specs.Dialog.{Dialog, dialog_of};
 ghost use Rattle.cpm_run.specs.Play.{IsInOrder, PlayedRunEnds, first_state};
 ghost use Rattle.cpm_run.specs.Run.{TurnsEnd};
 ghost use Rattle.cpm_run.specs.Start.{IsStart};
@@ -12,8 +12,10 @@ ghost use Rattle.cpm_run.specs.declared.arriving.Arrival.{Arrival};
 ghost use Rattle.z80_cpu.specs.declared.registers.Cpu.{Cpu};
 ghost use Rattle.debugger.specs.Alike.{AlikeHistories, AlikePoints, AlikeStates, IsCalm, ShowsRun};
 ghost use Rattle.debugger.specs.Coming.{came_before};
+ghost use Rattle.debugger.specs.Conversation.{SessionState, Talks};
 ghost use Rattle.debugger.specs.Going.{IsFirstShown, RanUntil};
-ghost use Rattle.debugger.specs.Session.{Moves};
+ghost use Rattle.debugger.specs.Labelled.{Known};
+ghost use Rattle.debugger.specs.Session.{IsSameRun, Moves};
 ghost use Rattle.debugger.specs.Stops.{IsLast};
 ghost use Rattle.debugger.specs.declared.command.Command.{Command};
 ghost use Rattle.debugger.specs.declared.history.Outcome.{Outcome};
@@ -39,10 +41,15 @@ pub fn is_session()
         × PlayedRunEnds (λ image. image) (λ image. 0) n (first_state cpu memory disk) (limit_end p.end) (record { run = run_of p.state; turns = n; arrivals = came_before n recorded; shown = [] }) }
 {}
 
+/// Whatever lines are obeyed, what a session shows is a point of the one run that it began with, after its number of turns.
+pub fn same_run()
+    ensures { (file : List ℕ) (words : List (List ℕ)) (disk : Mounted Image) (console : Dialog) (recorded : List Arrival) (known : Known) (listing : List ℕ) (lines : List (List ℕ)) (said : List ℕ) (old new : SessionState) →
+        IsFirstShown file words disk console recorded old.shown → Talks known listing old lines said new → IsSameRun old.shown new.shown }
+{}
+
 /// A run has one state after each number of turns. Two runs that begin in states that look alike are, after as many turns, in states that
 /// look alike: with the same registers, memory, input and output, the same files on their disks, and the same bytes still to come. They go on
-/// there, or end for the same reason. This does not hold of a state in which memory has run out for what the program printed or for a byte
-/// that came.
+/// there, or end for the same reason. A state in which memory has run out for what the program printed, or for a byte that came, is left out.
 pub fn one_state()
     ensures { (printed : List ℕ) (start beginning : MemoryState) (n : ℕ) (p q : Point) →
         AlikeStates printed start beginning → IsCalm p → IsCalm q → IsAfter start n p → IsAfter beginning n q → AlikePoints printed p q }

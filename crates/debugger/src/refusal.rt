@@ -1,9 +1,9 @@
 //! Why a line is refused.
 
-ghost use Rattle.std.specs.Prelude.{◌≡◌, ◌++◌, IfOk, OnOk, map};
+ghost use Rattle.std.specs.Prelude.{◌≡◌, ◌++◌, IfOk};
 ghost use Rattle.debugger.specs.Typed.{refusal_line, shown_word, usage_line};
 
-use crate::printing::shown_character;
+use crate::text::put_characters;
 use crate::verb::Verb;
 use std::alloc::{AllocError, Global};
 
@@ -31,21 +31,11 @@ pub enum Refusal {
 /// The word that is wrong, and why.
 pub(crate) type Refused<'a> = (&'a [u8], Refusal);
 
-/// A word with its unprintable bytes as full stops.
-fn put_word_shown(word: &[u8], text: &mut Vec<u8>) -> Result<(), AllocError>
-    ensures { OnOk result (text.new.items ≡ text.old.items ++ shown_word word.now) }
-{
-    for byte in word {
-        text.push(shown_character(*byte))?;
-    }
-    Ok(())
-}
-
 fn named(alloc: Global, word: &[u8], reason: &[u8]) -> Result<Vec<u8>, AllocError>
     ensures { IfOk result (λ text. text.items ≡ shown_word word.now ++ reason.now) }
 {
     let mut text = Vec::new(alloc);
-    put_word_shown(word, &mut text)?;
+    put_characters(word, &mut text)?;
     text.extend_from_slice(reason)?;
     Ok(text)
 }

@@ -1,6 +1,6 @@
 //! A session: commands, a line each, and what is printed for them.
 
-ghost use Rattle.std.specs.Prelude.{◌≡◌};
+ghost use Rattle.std.specs.Prelude.{◌≡◌, drop};
 ghost use Rattle.debugger.specs.Session.{at_place};
 
 use crate::calls::{ReturnPlace, call_place};
@@ -11,36 +11,36 @@ use crate::printing::{put_memory, put_registers};
 use crate::refusal::refusal_line;
 use crate::stops::{Breakpoint, Condition, Goal, Hit, RegisterName, Stops};
 use crate::text::{
-    put_breakpoint, put_files, put_instructions, put_new_output, put_outcome, put_output,
-    put_point, put_stack, put_stops, put_watch, put_where, put_who,
+    put_breakpoint, put_files, put_instructions, put_outcome, put_output, put_point, put_stack,
+    put_stops, put_watch, put_where, put_who,
 };
 use std::alloc::{AllocError, Global};
 
-/// The most turns that one `run` makes.
+/// The most turns that one command makes which runs to something: `run`, `next` or `finish`.
 pub const MOST_TURNS: u64 = 100_000_000;
 
-const HELP: &[u8] = b"step [N]              make N turns, or one
-next                  one turn, but over the whole of a call
-finish                go on to the return from this subroutine
-run [ADDR]            go on to ADDR, a breakpoint, a watched byte, or the end
-back [N]              go back by N turns, or one
-back-next             the reverse of next: go back by one turn, but over the whole of a call
-back-run              go back to the last turn at which a breakpoint or a watched byte held
-turn N                go to the state after N turns from the start
-where                 PC with its label, and its line of the listing
-regs                  the registers, the flags, the DMA address and the user
-mem ADDR [N]          N bytes of memory
-dis ADDR [N]          N instructions
-stack                 the words on top of the stack
-output                what the program has printed
-who ADDR              the last turn that changed this byte
-break ADDR [if REG=N] stop when PC is ADDR
-watch ADDR [N]        stop at a turn that changes one of N bytes
-info                  list the breakpoints and the watched bytes
-delete                forget all of them
-files                 the files of the disk: user, name and records
-help                  this list
-quit                  end the session
+const HELP: &[u8] = b"step [N]                  make N turns, or one
+next                      one turn, but over the whole of a call
+finish                    go on to the first return that leaves SP above what it is now
+run [ADDR]                go on to ADDR, a breakpoint, a watched byte, or the end
+back [N]                  go back by N turns, or one
+back-next                 the reverse of next: go back by one turn, but over the whole of a call
+back-run                  go back to the last turn at which a breakpoint or a watched byte held
+turn N                    go to the state after N turns from the start
+where                     PC with its label, and its line of the listing
+regs                      the registers, the flags, the DMA address and the user
+mem ADDR [N]              N bytes of memory
+dis ADDR [N]              N instructions
+stack                     the words on top of the stack
+output                    what the program has printed
+who ADDR                  the last turn that changed this byte
+break ADDR [if REG=VALUE] stop when PC is ADDR, and REG has this value
+watch ADDR [N]            stop at a turn that changes one of N bytes
+info                      list the breakpoints and the watched bytes
+delete                    forget all of them, and list what was forgotten
+files                     the files of the disk: user, name and records
+help                      this list
+quit                      end the session
 A command may be shortened: a word stands for the first command in this list that begins with it, so s is step,
 b is back, and br is break. ADDR is a label, a label and a number as in TEXT+1, four hexadecimal digits as they
 are printed, or a number of the assembler, as 125H. A turn that writes the same value does not change a byte.
@@ -57,6 +57,13 @@ pub struct Session<'a> {
     is_over: bool,
 }
 
+/// The bytes after these first ones; none if there are fewer.
+fn bytes_since(bytes: &[u8], count: usize) -> &[u8]
+    ensures { result.now ≡ drop «count» bytes.now }
+{
+    bytes.get(count..).unwrap_or(&[])
+}
+
 /// PC at a place, with its SP.
 fn at_place(place: ReturnPlace) -> Goal
     ensures { result ≡ at_place place }
@@ -71,14 +78,16 @@ fn at_place(place: ReturnPlace) -> Goal
 }
 
 impl<'a> Session<'a> {
-    ghost use Rattle.std.specs.Prelude.{◌≡◌, ◌||◌, [], IfOk, false};
+    ghost use Rattle.std.specs.Prelude.{◌≡◌, ◌||◌, [], ℕ, IfOk, List, false, length};
     ghost use Rattle.debugger.specs.Calls.{call_place};
     ghost use Rattle.debugger.specs.Stops.{IsLast};
     ghost use Rattle.debugger.specs.Private.Listing.{ListsStops};
-    ghost use Rattle.debugger.specs.Text.{Says, Watches};
+    ghost use Rattle.debugger.specs.Printing.Memory.{memory_text};
+    ghost use Rattle.debugger.specs.Printing.Registers.{registers_text};
+    ghost use Rattle.debugger.specs.Text.{Printed, Says, SaysWhere, SaysWho, Watches, breakpoint_line, output_text, watch_line, where_text};
     ghost use Rattle.debugger.specs.declared.stops.Stops.{Stops as TheStops};
     ghost use Rattle.debugger.specs.Session.{BackNexts, BackRuns, GoesTo, Obeys, Moves, Nexts, RunsOn, Sets, is_quit};
-    ghost use Rattle.debugger.specs.Walk.{IsTrue_of_run};
+    ghost use Rattle.debugger.specs.Walk.{IsTrue_of_run, Shown};
     ghost use Rattle.debugger.specs.declared.command.Command.TheVariants as command;
 
     /// A session without breakpoints.
@@ -137,7 +146,7 @@ impl<'a> Session<'a> {
         Ok(Some(self.history.run(self.alloc, goal, &self.stops, limit)?))
     }
 
-    /// GoesTo to the point after this number of turns.
+    /// Goes to the point after this number of turns, or to the end of the run if that comes first.
     fn go_to(&mut self, turn: u64) -> Result<Option<Outcome>, AllocError>
         ensures start { self.new.history.start ≡ self.old.history.start }
         ensures after { IsTrue_of_run self.new.history }
@@ -164,7 +173,7 @@ impl<'a> Session<'a> {
         }
     }
 
-    /// GoesTo back to the last turn at which a breakpoint or a watched byte held.
+    /// Goes back to the last turn at which a breakpoint or a watched byte held; to turn 0 if there is none.
     fn back_run(&mut self) -> Result<Option<Outcome>, AllocError>
         ensures start { self.new.history.start ≡ self.old.history.start }
         ensures after { IsTrue_of_run self.new.history }
@@ -181,7 +190,7 @@ impl<'a> Session<'a> {
         }
     }
 
-    /// GoesTo back to the call over which `next` leads here, or by one turn.
+    /// Goes back to the call over which `next` leads here, or by one turn.
     fn back_next(&mut self) -> Result<Option<Outcome>, AllocError>
         ensures start { self.new.history.start ≡ self.old.history.start }
         ensures after { IsTrue_of_run self.new.history }
@@ -193,7 +202,7 @@ impl<'a> Session<'a> {
         self.go_to(call.unwrap_or(before))
     }
 
-    /// GoesTo to another turn, as a command asks; or stays.
+    /// Goes to another turn, as a command asks; or stays.
     fn go(&mut self, command: Command) -> Result<Option<Outcome>, AllocError>
         ensures start { self.new.history.start ≡ self.old.history.start }
         ensures after { IsTrue_of_run self.new.history }
@@ -253,7 +262,7 @@ impl<'a> Session<'a> {
 
     /// The registers, the flags, the address of the buffer for records, and the user.
     fn registers(&self) -> Result<Vec<u8>, AllocError>
-        ensures { IfOk result (λ text. Says command.Registers self.now.stops self.now.history self.now.labels self.now.listing.now text.items) }
+        ensures { IfOk result (λ text. text.items ≡ registers_text self.now.history.point.state.machine.cpu self.now.history.point.state.system.dma self.now.history.point.state.system.user) }
     {
         let snapshot = self.history.point().snapshot();
         let (cpu, dma, user) = (snapshot.cpu(), snapshot.dma(), snapshot.user());
@@ -264,7 +273,7 @@ impl<'a> Session<'a> {
 
     /// Bytes of memory.
     fn memory(&self, from: u16, count: u16) -> Result<Vec<u8>, AllocError>
-        ensures { IfOk result (λ text. Says (command.Memory from «count») self.now.stops self.now.history self.now.labels self.now.listing.now text.items) }
+        ensures { IfOk result (λ text. text.items ≡ memory_text self.now.history.point.state.machine.memory from «count») }
     {
         let memory = self.history.point().snapshot().memory();
         let mut text = Vec::new(self.alloc);
@@ -274,7 +283,7 @@ impl<'a> Session<'a> {
 
     /// The last turn that changed a byte.
     fn who(&self, address: u16) -> Result<Vec<u8>, AllocError>
-        ensures { IfOk result (λ text. Says (command.Who address) self.now.stops self.now.history self.now.labels self.now.listing.now text.items) }
+        ensures { IfOk result (λ text. SaysWho address self.now.history self.now.labels text.items) }
     {
         let last = self.last_change(address)?;
         let mut text = Vec::new(self.alloc);
@@ -284,7 +293,7 @@ impl<'a> Session<'a> {
 
     /// PC with its label, and its line of the listing.
     fn place(&self) -> Result<Vec<u8>, AllocError>
-        ensures { IfOk result (λ text. Says command.Where self.now.stops self.now.history self.now.labels self.now.listing.now text.items) }
+        ensures { IfOk result (λ text. text.items ≡ where_text self.now.labels self.now.listing.now self.now.history.point.state.machine.cpu.pc) }
     {
         let pc = self.history.point().snapshot().cpu().pc;
         let mut text = Vec::new(self.alloc);
@@ -294,7 +303,7 @@ impl<'a> Session<'a> {
 
     /// The line of a breakpoint.
     fn breakpoint(&self, breakpoint: Breakpoint) -> Result<Vec<u8>, AllocError>
-        ensures { IfOk result (λ text. Says (command.Break breakpoint) self.now.stops self.now.history self.now.labels self.now.listing.now text.items) }
+        ensures { IfOk result (λ text. text.items ≡ breakpoint_line self.now.labels breakpoint) }
     {
         let mut text = Vec::new(self.alloc);
         put_breakpoint(self.alloc, &self.labels, breakpoint, &mut text)?;
@@ -303,7 +312,7 @@ impl<'a> Session<'a> {
 
     /// The line of watched bytes.
     fn watched(&self, from: u16, count: u16) -> Result<Vec<u8>, AllocError>
-        ensures { IfOk result (λ text. Says (command.Watch from «count») self.now.stops self.now.history self.now.labels self.now.listing.now text.items) }
+        ensures { IfOk result (λ text. text.items ≡ watch_line self.now.labels from «count») }
     {
         let mut text = Vec::new(self.alloc);
         put_watch(self.alloc, &self.labels, from, count, &mut text)?;
@@ -333,10 +342,13 @@ impl<'a> Session<'a> {
 
     /// What is printed for a command that goes to another turn, and ended so: what the program has printed since, why the command stopped,
     /// and the turn. `printed` is how many bytes the program had printed before.
-    fn moved(&self, told: Option<Outcome>, printed: usize) -> Result<Vec<u8>, AllocError> {
+    fn moved(&self, told: Option<Outcome>, printed: usize) -> Result<Vec<u8>, AllocError>
+        ensures { (old : Shown) (before : List ℕ) → Printed old before → printed ≡ length before → IfOk result (λ text. SaysWhere told old self.now.history self.now.labels text.items) }
+    {
         let point = self.history.point();
         let mut text = Vec::new(self.alloc);
-        put_new_output(printed, point.snapshot(), &mut text)?;
+        let output = bytes_since(point.snapshot().output(), printed);
+        put_output(self.alloc, output, &mut text)?;
         put_outcome(self.alloc, &self.labels, told, &mut text)?;
         put_point(
             self.alloc,
@@ -356,13 +368,25 @@ impl<'a> Session<'a> {
         Ok(text)
     }
 
+    /// What the program has printed.
+    fn output(&self) -> Result<Vec<u8>, AllocError>
+        ensures { IfOk result (λ text. (bytes : List ℕ) × Printed self.now.history bytes × (text.items ≡ output_text bytes)) }
+    {
+        let mut text = Vec::new(self.alloc);
+        put_output(
+            self.alloc,
+            self.history.point().snapshot().output(),
+            &mut text,
+        )?;
+        Ok(text)
+    }
+
     /// What is printed for the commands that show something else.
     fn shown(&self, command: Command) -> Result<Vec<u8>, AllocError> {
         let snapshot = self.history.point().snapshot();
         let mut text = Vec::new(self.alloc);
         match command {
             Command::Stack => put_stack(self.alloc, &self.labels, snapshot, &mut text)?,
-            Command::Output => put_output(snapshot.output(), &mut text)?,
             Command::Files => put_files(self.alloc, snapshot.disk(), &mut text)?,
             _ => text.extend_from_slice(HELP)?,
         }
@@ -378,7 +402,8 @@ impl<'a> Session<'a> {
         listed: Vec<u8>,
         printed: usize,
     ) -> Result<Vec<u8>, AllocError>
-        ensures { (stops : TheStops) → ListsStops command stops self.now.labels listed.items → IfOk result (λ text. Says command stops self.now.history self.now.labels self.now.listing.now text.items) }
+        ensures { (stops : TheStops) (old : Shown) (before : List ℕ) → ListsStops command stops self.now.labels listed.items → Printed old before → printed ≡ length before
+            → IfOk result (λ text. Says command stops told old self.now.history self.now.labels self.now.listing.now text.items) }
     {
         match command {
             Command::Registers => self.registers(),
@@ -392,7 +417,7 @@ impl<'a> Session<'a> {
             Command::Quit => Ok(Vec::new(self.alloc)),
             Command::Disassemble(from, count) => self.code(from, count),
             Command::Stack => self.shown(command),
-            Command::Output => self.shown(command),
+            Command::Output => self.output(),
             Command::Files => self.shown(command),
             Command::Help => self.shown(command),
             Command::Step(_) => self.moved(told, printed),

@@ -9,10 +9,10 @@ ghost use Rattle.debugger.specs.Session.{addresses};
 ghost use Rattle.debugger.specs.Stops.{breaks, broken, changed, condition_is_met, has_returned, is_reached, is_return_code, may_return, sp_returned};
 ghost use Rattle.debugger.specs.declared.stops.Hit.TheVariants as hit;
 
+use crate::calls::is_of_system;
 use crate::command::Command;
 use crate::point::Point;
 use crate::snapshot::Snapshot;
-use cpm_run::{BDOS, bios_entry};
 use std::alloc::{AllocError, Global};
 use z80_cpu::{Cpu, Memory};
 
@@ -124,7 +124,7 @@ pub struct Change {
     pub address: u16,
     pub before: u8,
     pub after: u8,
-    /// PC before the turn: the address of the instruction that changed the byte.
+    /// PC before the turn: the address of the instruction or the system call that changed the byte.
     pub by: u16,
     /// C before the turn: the function, if the turn is a system call.
     pub function: u8,
@@ -161,13 +161,7 @@ fn is_return_code(first: u8, second: u8) -> bool
 fn may_return(pc: u16, first: u8, second: u8) -> bool
     ensures { result ≡ may_return (place_at_pc pc) first second }
 {
-    if pc == BDOS {
-        return true;
-    }
-    match bios_entry(pc) {
-        Some(_) => true,
-        None => is_return_code(first, second),
-    }
+    is_of_system(pc) || is_return_code(first, second)
 }
 
 /// SP after the return, if a turn that begins in this state may be one.

@@ -1,8 +1,9 @@
 //! What a session prints.
 
-ghost use Rattle.std.specs.Prelude.{◌≡◌, ◌<◌, ◌++◌, ◌∷◌, [], OnOk, option_map, true};
+ghost use Rattle.std.specs.Prelude.{◌≡◌, ◌==◌, ◌<◌, ◌++◌, ◌∷◌, [], ℕ, IfOk, List, OnOk, filter, map, not, option_map, true};
 ghost use Rattle.hex.specs.Hex.{encode_upper};
-ghost use Rattle.debugger.specs.Text.{labelled_address, breakpoint_line, breakpoint_lines, call_text, change_line, changer_text, condition_after, count_after, follows, label_after, listing_text, line_with, stops_text, unchanged_line, values_text, watch_line, watched_line, watched_lines, where_text, who_text};
+ghost use Rattle.debugger.specs.Printing.Memory.{shown_character};
+ghost use Rattle.debugger.specs.Text.{labelled_address, breakpoint_line, breakpoint_lines, call_text, change_line, changer_text, condition_after, count_after, follows, label_after, listing_text, line_with, outcome_text, output_text, point_line, printed_line, stops_text, unchanged_line, values_text, watch_line, watched_line, watched_lines, where_text, who_text};
 
 use crate::history::Outcome;
 use crate::labels::{Labels, put_label};
@@ -103,6 +104,15 @@ pub(crate) fn put_address(
     put_label_after(alloc, labels.find(address), text)
 }
 
+/// The end of the run, or the instruction at PC.
+fn what_is_at(alloc: Global, point: &Point<'_>) -> Result<String, AllocError> {
+    let snapshot = point.snapshot();
+    match point.end() {
+        Some(why) => format!(in alloc; "{why}"),
+        None => instruction(alloc, snapshot.cpu(), snapshot.memory(), snapshot.cpu().pc),
+    }
+}
+
 /// The line of the point that is shown: the number of turns, PC and its label, and the instruction there or the end of the run.
 pub(crate) fn put_point(
     alloc: Global,
@@ -110,19 +120,16 @@ pub(crate) fn put_point(
     turn: u64,
     point: &Point<'_>,
     text: &mut Vec<u8>,
-) -> Result<(), AllocError> {
-    let snapshot = point.snapshot();
-    let pc = snapshot.cpu().pc;
+) -> Result<(), AllocError>
+    ensures { IfOk result (λ _. (what : List ℕ) × (text.new.items ≡ text.old.items ++ point_line labels.now turn point.now.state.machine.cpu.pc what)) }
+{
+    let pc = point.snapshot().cpu().pc;
     text.extend_from_slice(format!(in alloc; "turn {turn} at ")?.as_bytes())?;
     put_address(alloc, labels, pc, text)?;
     text.extend_from_slice(b": ")?;
-    let what = match point.end() {
-        Some(why) => format!(in alloc; "{why}")?,
-        None => instruction(alloc, snapshot.cpu(), snapshot.memory(), pc)?,
-    };
+    let what = what_is_at(alloc, point)?;
     text.extend_from_slice(what.as_bytes())?;
-    text.push(b'\n')?;
-    Ok(())
+    text.extend_from_slice(b"\n")
 }
 
 /// Appends a byte as two hexadecimal digits.
@@ -221,7 +228,9 @@ pub(crate) fn put_outcome(
     labels: &Labels,
     told: Option<Outcome>,
     text: &mut Vec<u8>,
-) -> Result<(), AllocError> {
+) -> Result<(), AllocError>
+    ensures { OnOk result (text.new.items ≡ text.old.items ++ outcome_text labels.now told) }
+{
     match told {
         Some(Outcome::Held(Hit::Breakpoint(address))) => {
             text.extend_from_slice(b"breakpoint ")?;
@@ -382,37 +391,47 @@ pub(crate) fn put_stops(
     put_watches(alloc, labels, before, &stops.watches, text)
 }
 
-/// Bytes that the program has printed, each line of them after `| `. CR is left out, and other bytes that are no characters are dots.
-pub(crate) fn put_output(output: &[u8], text: &mut Vec<u8>) -> Result<(), AllocError> {
-    let mut is_open = false;
-    for byte in output {
-        if *byte == b'\r' {
-            continue;
-        }
-        if !is_open {
-            text.extend_from_slice(b"| ")?;
-            is_open = true;
-        }
-        if *byte == b'\n' {
-            text.push(b'\n')?;
-            is_open = false;
-        } else {
-            text.push(shown_character(*byte))?;
+/// The bytes that are no CR.
+fn without_returns(alloc: Global, bytes: &[u8]) -> Result<Vec<u8>, AllocError>
+    ensures { IfOk result (λ kept. kept.items ≡ filter (λ byte. not (byte == 0x0D)) bytes.now) }
+{
+    let mut kept = Vec::new(alloc);
+    for byte in bytes {
+        if *byte != b'\r' {
+            kept.push(*byte)?;
         }
     }
-    if is_open {
-        text.push(b'\n')?;
+    Ok(kept)
+}
+
+/// Appends bytes, with a full stop for each byte that is no character.
+pub(crate) fn put_characters(bytes: &[u8], text: &mut Vec<u8>) -> Result<(), AllocError>
+    ensures { OnOk result (text.new.items ≡ text.old.items ++ map shown_character bytes.now) }
+{
+    for byte in bytes {
+        text.push(shown_character(*byte))?;
     }
     Ok(())
 }
 
-/// What the program has printed between two states.
-pub(crate) fn put_new_output(
-    before: usize,
-    now: &Snapshot<'_>,
-    text: &mut Vec<u8>,
-) -> Result<(), AllocError> {
-    put_output(now.output().get(before..).unwrap_or(&[]), text)
+/// A line that the program has printed, after `| `.
+fn put_printed_line(line: &[u8], text: &mut Vec<u8>) -> Result<(), AllocError>
+    ensures { OnOk result (text.new.items ≡ text.old.items ++ printed_line line.now) }
+{
+    text.extend_from_slice(b"| ")?;
+    put_characters(line, text)?;
+    text.extend_from_slice(b"\n")
+}
+
+/// Bytes that the program has printed, each line of them after `| `. CR is left out, and other bytes that are no characters are full stops.
+pub(crate) fn put_output(alloc: Global, output: &[u8], text: &mut Vec<u8>) -> Result<(), AllocError>
+    ensures { OnOk result (text.new.items ≡ text.old.items ++ output_text output.now) }
+{
+    let kept = without_returns(alloc, output)?;
+    for line in kept.as_slice().lines() {
+        put_printed_line(line, text)?;
+    }
+    Ok(())
 }
 
 /// The lines of instructions: the address and its label, and the instruction.
@@ -454,10 +473,7 @@ pub(crate) fn put_stack(
 
 /// Bytes of a name, without the blanks at their end.
 fn put_part(bytes: &[u8], text: &mut Vec<u8>) -> Result<(), AllocError> {
-    for byte in bytes.trim_ascii_end() {
-        text.push(shown_character(*byte))?;
-    }
-    Ok(())
+    put_characters(bytes.trim_ascii_end(), text)
 }
 
 /// A name as `dir` prints it: NAME.TYP, or NAME if it has no type.

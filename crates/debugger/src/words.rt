@@ -60,7 +60,7 @@ pub(crate) fn words_of<'a>(alloc: Global, line: &'a [u8]) -> Result<Vec<&'a [u8]
     Ok(found)
 }
 
-/// Where the first of these bytes is.
+/// Where this byte is for the first time.
 fn place_of(word: &[u8], byte: u8) -> Option<usize>
     ensures place { result ≡ position (λ b. b == byte) word.now }
     ensures within { IfSome result (λ at. at < length word.now) }
@@ -68,7 +68,7 @@ fn place_of(word: &[u8], byte: u8) -> Option<usize>
     word.iter().position(|b| *b == byte)
 }
 
-/// What is before and after the first of these bytes in a word.
+/// What is before and what is after the first place of this byte in a word.
 pub(crate) fn cut(word: &[u8], byte: u8) -> Option<(&[u8], &[u8])>
     ensures { option_map (λ parts. (parts.0.now, parts.1.now)) result ≡ cut byte word.now }
 {

@@ -25,7 +25,7 @@ returns-clause-talks g c =
     let after = g.O.Sink.stream c.answer_line.new.output in
     let said = c.in_ok-answer_line.ensures.obeys in
     let heard = subst (λ (bytes : List ℕ). Obeys s.labels s.listing.now bytes s.history s.stops s.is_over u.history u.stops u.is_over said.0) c.deref.ensures.value said.1 in
-    let talks = one_line s.labels s.listing.now line first last before after said.0 c.requires.going heard said.2 in
+    let talks = one_line s.labels s.listing.now line first last before after said.0 c.requires.going heard said.2 c.in_ok-answer_line.ensures.handed in
     let ends = line_end s.labels s.listing.now line first last before after c.requires.line talks in
     let byte = subst (λ (b : ℕ). TakesAllLines s.labels s.listing.now line (b ∷ []) [] first last before after) (sym c.if-byte-ne10.false) ends in
     subst (λ (next : List ℕ). TakesAllLines s.labels s.listing.now line (c.args.byte ∷ []) next first last before after) (sym c.clear.ensures.items) byte

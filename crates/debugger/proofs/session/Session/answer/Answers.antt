@@ -1,0 +1,26 @@
+use Rattle.std.proofs.Common.{List, ℕ, Bor, Ok, Option, ap, refl, sym, subst, ◌∙◌}
+use Rattle.std.proofs.lemmas.Result.{IfOk-weaker}
+use Rattle.debugger.specs.Labelled.{Known}
+use Rattle.debugger.specs.Private.Listing.{ListsStops}
+use Rattle.debugger.specs.Session.{AnswersAs}
+use Rattle.debugger.specs.Text.{Says}
+use Rattle.debugger.specs.Typed.{Reading, shown_reading}
+use Rattle.debugger.specs.Walk.{MemoryState, Point}
+use Rattle.debugger.specs.declared.command.Command.{Command}
+use Rattle.debugger.proofs.session.Session.answer.Goals as goal
+
+pub returns-in_ok-told-in-Ok-Some-clause-obeys : goal.returns-in_ok-told-in-Ok-Some-clause-obeys
+returns-in_ok-told-in-Ok-Some-clause-obeys c =
+    let s = c.args.self.now in
+    let n = c.obey.new.self in
+    let command = c.in-Ok-Some.command in
+    let told = c.in_ok-told-in-Ok-Some.told in
+    let step = c.in_ok-told-in-Ok-Some.ensures in
+    let meaning = sym c.in_ok-command.ensures ∙ ap shown_reading c.in-Ok-Some.is ∙ ap (λ (it : Option Command). Ok it) c.in-Ok-Some.field-0-is in
+    let printed = ap (λ (m : MemoryState). m.system.terminal.console.output) (sym (c.snapshot.ensures ∙ ap (λ (p : Point). p.state) c.point.ensures.point)) ∙ c.output-printed.ensures in
+    let listed = subst (λ (known : Known). ListsStops command s.stops known c.in_ok-listed-in-Ok-Some.listed.items) (sym step.labels) c.in_ok-listed-in-Ok-Some.ensures in
+    let says = c.said.ensures s.stops s.history c.output-printed.result.now listed printed refl in
+    IfOk-weaker c.said.result _ _ (λ text said. (
+    let shown = subst (λ (l : Bor (List ℕ)). Says command s.stops told s.history n.history n.labels l.now text.items) step.listing said in
+    let known = subst (λ (k : Known). Says command s.stops told s.history n.history k s.listing.now text.items) step.labels shown in
+    ((step.start, step.after), subst (λ (r : Reading (Option Command)). AnswersAs r s.labels s.listing.now s.history s.stops s.is_over n.history n.stops n.is_over text.items) (sym meaning) (told, step.moves, step.sets, step.over, known)))) says
