@@ -29,7 +29,7 @@ use Rattle.z80dev_run.specs.declared.desk.Keys.{Keys}
 use Rattle.z80dev_run.specs.declared.desk.Keys.TheVariants.{Raw, Lines}
 use Rattle.z80dev_run.specs.declared.recorded.Recorded.{Recorded}
 use Rattle.z80dev_run.specs.Ending.{Concludes}
-use Rattle.z80dev_run.specs.Program.{IsPlayedRan, IsRecord, IsReplayedRan, record_text}
+use Rattle.z80dev_run.specs.Program.{IsPlayedRan, IsNoRecord, IsRecord, IsReplayedRan, record_text}
 
 -- ---- the words
 
@@ -80,18 +80,18 @@ ReadsPlayed p old new (Ok inputs) = ClaimsDisk p.disk p.lock old new inputs.imag
 ReadsPlayed p old new (Err e) = IsDiskNotClaimed p.disk old new e
     ⊎ ((mid : Folder) × (image : List ℕ) × (lines : Option (List ℕ)) × ClaimsDisk p.disk p.lock old mid image lines × IsNotRead mid new p.program.now e)
 
--- a file that is not the record of a session
-abbrev pub IsNoRecord : List ℕ → End → Type 0
-IsNoRecord path (end.Refused said) = string_bytes said ≡ codes "BadRecord(" ++ path ++ codes ")"
-IsNoRecord path end.NoMemory = Unit {0}
-IsNoRecord path _ = ⊥
+-- A file with this text is refused: it is the record of no session; or memory ran out.
+abbrev pub RefusesRecord : List ℕ → List ℕ → End → Type 0
+RefusesRecord text path (end.Refused said) = IsNoRecord text × (string_bytes said ≡ codes "BadRecord(" ++ path ++ codes ")")
+RefusesRecord text path end.NoMemory = Unit {0}
+RefusesRecord text path _ = ⊥
 
--- The record of an earlier session is read, if there is a path for it. A file that is refused may be one: this does not say that it is not.
+-- The record of an earlier session is read, if there is a path for it.
 abbrev pub ReadsRecord : Option (Bor (List ℕ)) → Folder → Folder → Result (Option Recorded) End → Type 0
 ReadsRecord None old new (Ok found) = (found ≡ None) × (new ≡ old)
 ReadsRecord None old new (Err e) = ⊥
 ReadsRecord (Some path) old new (Ok found) = (new ≡ old) × (text : List ℕ) × IsRead old path.now text × (recorded : Recorded) × (found ≡ Some recorded) × IsRecord text recorded.arrivals.items recorded.last
-ReadsRecord (Some path) old new (Err e) = IsNotRead old new path.now e ⊎ ((new ≡ old) × IsNoRecord path.now e)
+ReadsRecord (Some path) old new (Err e) = IsNotRead old new path.now e ⊎ ((new ≡ old) × (text : List ℕ) × IsRead old path.now text × RefusesRecord text path.now e)
 
 -- The image, the program and the record are read.
 abbrev pub ReadsSession : Play → Folder → Folder → Result (Inputs × Option Recorded) End → Type 0

@@ -5,3 +5,5 @@ mod Traced
 mod Totals
 mod Leaving
 mod Printed
+mod Cutting
+mod Leftovers

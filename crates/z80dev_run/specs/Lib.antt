@@ -9,3 +9,4 @@ pub mod Reports
 pub mod Profile
 pub mod Coverage
 pub mod Desk
+pub mod Private

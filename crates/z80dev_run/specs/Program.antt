@@ -1,5 +1,5 @@
 -- What the command `run` does with the bytes of its files and of standard input.
-use Rattle.std.specs.Prelude.{◌≡◌, ◌++◌, ◌∷◌, [], ℕ, List, Ok, Option, codes, decimal, length, map}
+use Rattle.std.specs.Prelude.{◌≡◌, ◌++◌, ◌∷◌, ◌<◌, ◌^◌, [], ℕ, All, List, Ok, Option, codes, decimal, length, map}
 use Rattle.std.specs.List.{concat, flat_map}
 use Rattle.hex.specs.Hex.{encode_upper}
 use Rattle.streams.specs.Stream.{Stream}
@@ -72,7 +72,15 @@ closing_line turns = decimal turns ++ codes " END\n"
 abbrev pub record_text : List Arrival → ℕ → List ℕ
 record_text arrivals turns = flat_map arrival_line arrivals ++ closing_line turns
 
+-- the numbers of an arrival have 64 bits and 8 bits
+abbrev pub IsWritable : Arrival → Type 0
+IsWritable arrival = (arrival.turn < 2 ^ 64) × (arrival.byte < 256)
+
 -- This is the text of a record, and its numbers of steps do not go down.
 pub record IsRecord (text : List ℕ) (arrivals : List Arrival) (last : ℕ) : Type 0 where
   pub is : text ≡ record_text arrivals last
   pub order : IsInOrder arrivals last
+
+-- It is the text of none.
+abbrev pub IsNoRecord : List ℕ → Type 0
+IsNoRecord text = (arrivals : List Arrival) (last : ℕ) → All IsWritable arrivals → last < 2 ^ 64 → ¬ IsRecord text arrivals last

@@ -6,7 +6,7 @@ use Rattle.z80dev_run.specs.Lines.{IsTrace}
 
 -- how many steps a trace file leaves out
 abbrev pub more_steps_text : ℕ → List ℕ
-more_steps_text n = if n == 0 then [] else decimal n ++ codes " more steps\n"
+more_steps_text n = if n == 0 then [] else if n == 1 then codes "1 more step\n" else decimal n ++ codes " more steps\n"
 
 -- A trace file: the lines of these steps, and how many more the run made.
 abbrev pub IsTraceFile : Known → List TraceStep → ℕ → List ℕ → Type 0

@@ -1,9 +1,13 @@
 //! The files of sessions at a keyboard.
 
-ghost use Rattle.std.specs.Prelude.{◌≡◌, ◌++◌, ◌≤◌, IfOk, IfSome, OnOk, true};
+ghost use Rattle.std.specs.Prelude.{◌≡◌, ◌++◌, ◌∷◌, ◌<◌, ◌≤◌, ◌^◌, [], ℕ, All, IfOk, IfSome, List, MatchOption, OnOk, Some, codes, decimal, false, length, true};
+ghost use Rattle.hex.specs.Hex.{encode_upper};
+ghost use Rattle.cpm_run.specs.declared.arriving.Arrival.{Arrival as AnArrival};
+ghost use Rattle.z80dev_run.specs.Private.Cuts.{Lacks};
+ghost use Rattle.z80dev_run.specs.declared.recorded.Line.TheVariants as line;
 ghost use Rattle.std.specs.List.{flat_map};
 ghost use Rattle.cpm_run.specs.Play.{IsInOrder};
-ghost use Rattle.z80dev_run.specs.Program.{IsRecord, arrival_line, closing_line, record_text};
+ghost use Rattle.z80dev_run.specs.Program.{IsNoRecord, IsRecord, IsWritable, arrival_line, closing_line, record_text};
 
 use cpm_run::Arrival;
 use std::alloc::{AllocError, Global};
@@ -61,7 +65,8 @@ pub fn record_file(alloc: Global, arrivals: &[Arrival], turns: u64) -> Result<Ve
 
 /// Whether the numbers of steps do not go down, and none is above the last.
 fn is_in_order(arrivals: &[Arrival], last: u64) -> bool
-    ensures { result ≡ true → IsInOrder arrivals.now last }
+    ensures yes { result ≡ true → IsInOrder arrivals.now last }
+    ensures no { result ≡ false → ¬ IsInOrder arrivals.now last }
 {
     let mut most = 0;
     for arrival in arrivals {
@@ -73,40 +78,83 @@ fn is_in_order(arrivals: &[Arrival], last: u64) -> bool
     most <= last
 }
 
-/// A line of a file of a session, if it is one.
-fn line_of(line: &[u8]) -> Option<Line> {
-    let Ok(text) = str::from_utf8(line) else {
-        return None;
-    };
-    let (number, rest) = text.split_once(' ')?;
-    let Ok(turn) = number.parse::<u64>() else {
-        return None;
-    };
-    if rest == "END" {
-        return Some(Line::End(turn));
+/// What is before and what is after the first place of a byte.
+fn cut(text: &[u8], byte: u8) -> Option<(&[u8], &[u8])>
+    ensures parts { MatchOption result (Lacks byte text.now) (λ found. Lacks byte found.0.now × (text.now ≡ found.0.now ++ byte ∷ found.1.now)) }
+    ensures shorter { IfSome result (λ found. length found.1.now < length text.now) }
+{
+    let len = text.iter().take_while(|other| **other != byte).count();
+    let (front, rest) = text.split_at(len);
+    match rest {
+        [_, after @ ..] => Some((front, after)),
+        [] => None,
     }
-    match u8::from_str_radix(rest, 16) {
-        Ok(byte) => Some(Line::Byte(Arrival { turn, byte })),
+}
+
+/// The number of these decimal digits.
+fn number_of(digits: &[u8]) -> Option<u64>
+    ensures { (n : ℕ) → n < 2 ^ 64 → digits.now ≡ decimal n → result ≡ Some n }
+{
+    let text = str::from_utf8(digits).ok()?;
+    text.parse().ok()
+}
+
+/// The byte of these two hexadecimal digits.
+fn byte_of(digits: &[u8]) -> Option<u8>
+    ensures { (byte : ℕ) → byte < 256 → digits.now ≡ encode_upper (byte ∷ []) → result ≡ Some byte }
+{
+    let mut byte = [0; 1];
+    match hex::decode_to_slice(digits, &mut byte) {
+        Ok(()) => Some(byte[0]),
         Err(_) => None,
     }
 }
 
-/// What a file of a session has, if each line is one, as far as they can be read one by one.
-fn lines_of(alloc: Global, text: &[u8]) -> Result<Option<Recorded>, AllocError> {
+/// A line with this number and this word after it.
+fn line_of(number: u64, word: &[u8]) -> Option<Line>
+    ensures byte { (byte : ℕ) → byte < 256 → word.now ≡ encode_upper (byte ∷ []) → result ≡ Some (line.Byte (record { turn = number; byte = byte })) }
+    ensures end { word.now ≡ codes "END" → result ≡ Some (line.End number) }
+{
+    if word == b"END".as_slice() {
+        return Some(Line::End(number));
+    }
+    let byte = byte_of(word)?;
+    Some(Line::Byte(Arrival { turn: number, byte }))
+}
+
+/// The line at the front of a file of a session, and what follows it.
+fn first_line(text: &[u8]) -> Option<(Line, &[u8])>
+    ensures byte { (arrival : AnArrival) (rest : List ℕ) → IsWritable arrival → text.now ≡ arrival_line arrival ++ rest → MatchOption result ⊥ (λ found. (found.0 ≡ line.Byte arrival) × (found.1.now ≡ rest)) }
+    ensures end { (last : ℕ) (rest : List ℕ) → last < 2 ^ 64 → text.now ≡ closing_line last ++ rest → MatchOption result ⊥ (λ found. (found.0 ≡ line.End last) × (found.1.now ≡ rest)) }
+    ensures shorter { IfSome result (λ found. length found.1.now < length text.now) }
+{
+    let (digits, rest) = cut(text, b' ')?;
+    let (word, after) = cut(rest, b'\n')?;
+    let number = number_of(digits)?;
+    let line = line_of(number, word)?;
+    Some((line, after))
+}
+
+/// What a file of a session has, as far as it can be read line by line.
+fn lines_of(alloc: Global, text: &[u8]) -> Result<Option<Recorded>, AllocError>
+    ensures { (arrivals : List AnArrival) (last : ℕ) → All IsWritable arrivals → last < 2 ^ 64 → text.now ≡ record_text arrivals last
+        → IfOk result (λ found. MatchOption found ⊥ (λ recorded. (recorded.arrivals.items ≡ arrivals) × (recorded.last ≡ last))) }
+{
     let mut arrivals = Vec::new(alloc);
-    for line in text.split(|byte| *byte == b'\n') {
-        match line_of(line) {
-            Some(Line::Byte(arrival)) => arrivals.push(arrival)?,
-            Some(Line::End(last)) => return Ok(Some(Recorded { arrivals, last })),
-            None => return Ok(None),
+    let mut rest = text;
+    while let Some((line, after)) = first_line(rest) {
+        match line {
+            Line::Byte(arrival) => arrivals.push(arrival)?,
+            Line::End(last) => return Ok(Some(Recorded { arrivals, last })),
         }
+        rest = after;
     }
     Ok(None)
 }
 
 /// Reads the file of a session. `None` if it is not one, byte for byte as [`record_file`] writes it, or if its numbers of steps go down.
 pub fn read_record(alloc: Global, text: &[u8]) -> Result<Option<Recorded>, AllocError>
-    ensures { IfOk result (λ found. IfSome found (λ recorded. IsRecord text.now recorded.arrivals.items recorded.last)) }
+    ensures { IfOk result (λ found. MatchOption found (IsNoRecord text.now) (λ recorded. IsRecord text.now recorded.arrivals.items recorded.last)) }
 {
     let Some(recorded) = lines_of(alloc, text)? else {
         return Ok(None);

@@ -1,9 +1,9 @@
 //! Prints what a run has kept of its steps.
 
-ghost use Rattle.std.specs.Prelude.{◌≡◌, IfOk};
+ghost use Rattle.std.specs.Prelude.{◌≡◌, ◌++◌, IfOk, OnOk};
 ghost use Rattle.cpm_run.specs.Records.{last_items};
 ghost use Rattle.z80dev_run.specs.Lines.{IsTrace};
-ghost use Rattle.z80dev_run.specs.Reports.{IsTraceFile};
+ghost use Rattle.z80dev_run.specs.Reports.{IsTraceFile, more_steps_text};
 
 use crate::labels::Labels;
 use crate::lines::trace_lines;
@@ -13,6 +13,19 @@ use std::collections::VecDeque;
 
 /// How many of the first steps of a run a trace file has.
 pub const TRACE_STEPS: usize = 1_000_000;
+
+/// Appends the line that says how many more steps there were, if there were any.
+fn put_more_steps(alloc: Global, left: u64, text: &mut Vec<u8>) -> Result<(), AllocError>
+    ensures { OnOk result (text.new.items ≡ text.old.items ++ more_steps_text left) }
+{
+    if left == 0 {
+        return Ok(());
+    }
+    if left == 1 {
+        return text.extend_from_slice(b"1 more step\n");
+    }
+    text.extend_from_slice(format!(in alloc; "{left} more steps\n")?.as_bytes())
+}
 
 /// Answers the bytes of a trace file: a line for each of the first steps that were kept, and if there were more, how many.
 pub fn trace_file(
@@ -25,10 +38,7 @@ pub fn trace_file(
 {
     let mut text = trace_lines(alloc, &kept.first, labels)?;
     let left = turns.saturating_sub(kept.first.len() as u64);
-    if left != 0 {
-        let more = format!(in alloc; "{left} more steps\n")?;
-        text.extend_from_slice(more.as_bytes())?;
-    }
+    put_more_steps(alloc, left, &mut text)?;
     Ok(text)
 }
 
