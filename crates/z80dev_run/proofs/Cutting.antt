@@ -74,19 +74,23 @@ pub hex_lacks : (b byte : ℕ) → hex_digit_value byte ≡ None → b < 256 →
 unfolding encode_with
 hex_lacks b byte none lt = (digit_is_not byte (b / 16) none (omega arith), (digit_is_not byte (b % 16) none (omega arith), tt))
 
+pub byte_alone : (b : ℕ) → b < 256 → IsBytes (b ∷ [])
+byte_alone b lt zero = lt
+byte_alone b lt (suc k) = omega arith
+
 one_byte : (b : ℕ) → b < 256 → decode_sized (encode_upper (b ∷ [])) 1 ≡ Ok (b ∷ [])
 one_byte b lt =
-    decode_sized-twice (encode_upper (b ∷ [])) 1 (length-encode_with upper_digits (b ∷ [])) ∙ decode_of-encode_upper (b ∷ []) (bytes b lt)
-  where
-    bytes : (b : ℕ) → b < 256 → IsBytes (b ∷ [])
-    bytes b lt zero = lt
-    bytes b lt (suc k) = omega arith
+    decode_sized-twice (encode_upper (b ∷ [])) 1 (length-encode_with upper_digits (b ∷ [])) ∙ decode_of-encode_upper (b ∷ []) (byte_alone b lt)
 
 -- the byte that the digits of one are read as
 pub read_byte : (b : ℕ) (digits out : List ℕ) (r : Result Unit FromHexError) → b < 256 → digits ≡ encode_upper (b ∷ [])
     → MatchResult (decode_sized digits 1) (λ bytes. (r ≡ Ok tt) × (out ≡ bytes)) (λ e. r ≡ Err e) → (r ≡ Ok tt) × (out ≡ b ∷ [])
 read_byte b digits out r lt is told =
     subst (λ d. MatchResult d (λ bytes. (r ≡ Ok tt) × (out ≡ bytes)) (λ e. r ≡ Err e)) (ap (λ s. decode_sized s 1) is ∙ one_byte b lt) told
+
+-- the word END has no line feed
+pub end_lacks : Lacks 10 (codes "END")
+end_lacks = (refl, (refl, (refl, tt)))
 
 -- ---- the lines of a file of a session
 

@@ -7,3 +7,4 @@ mod Leaving
 mod Printed
 mod Cutting
 mod Leftovers
+mod OneRecord

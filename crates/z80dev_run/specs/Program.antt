@@ -72,15 +72,15 @@ closing_line turns = decimal turns ++ codes " END\n"
 abbrev pub record_text : List Arrival → ℕ → List ℕ
 record_text arrivals turns = flat_map arrival_line arrivals ++ closing_line turns
 
--- the numbers of an arrival have 64 bits and 8 bits
-abbrev pub IsWritable : Arrival → Type 0
-IsWritable arrival = (arrival.turn < 2 ^ 64) × (arrival.byte < 256)
+-- The number of steps has at most 64 bits, and the byte has 8.
+abbrev pub HasWidths : Arrival → Type 0
+HasWidths arrival = (arrival.turn < 2 ^ 64) × (arrival.byte < 256)
 
 -- This is the text of a record, and its numbers of steps do not go down.
 pub record IsRecord (text : List ℕ) (arrivals : List Arrival) (last : ℕ) : Type 0 where
   pub is : text ≡ record_text arrivals last
   pub order : IsInOrder arrivals last
 
--- It is the text of none.
+-- This is the text of no record whose numbers of steps have at most 64 bits and whose bytes have 8.
 abbrev pub IsNoRecord : List ℕ → Type 0
-IsNoRecord text = (arrivals : List Arrival) (last : ℕ) → All IsWritable arrivals → last < 2 ^ 64 → ¬ IsRecord text arrivals last
+IsNoRecord text = (arrivals : List Arrival) (last : ℕ) → All HasWidths arrivals → last < 2 ^ 64 → ¬ IsRecord text arrivals last

@@ -2,12 +2,12 @@
 
 ghost use Rattle.std.specs.Prelude.{◌≡◌, ◌++◌, ◌∷◌, ◌<◌, ◌≤◌, ◌^◌, [], ℕ, All, IfOk, IfSome, List, MatchOption, OnOk, Some, codes, decimal, false, length, true};
 ghost use Rattle.hex.specs.Hex.{encode_upper};
-ghost use Rattle.cpm_run.specs.declared.arriving.Arrival.{Arrival as AnArrival};
+ghost use Rattle.cpm_run.specs.declared.arriving.Arrival.{Arrival as TheArrival};
 ghost use Rattle.z80dev_run.specs.Private.Cuts.{Lacks};
 ghost use Rattle.z80dev_run.specs.declared.recorded.Line.TheVariants as line;
 ghost use Rattle.std.specs.List.{flat_map};
 ghost use Rattle.cpm_run.specs.Play.{IsInOrder};
-ghost use Rattle.z80dev_run.specs.Program.{IsNoRecord, IsRecord, IsWritable, arrival_line, closing_line, record_text};
+ghost use Rattle.z80dev_run.specs.Program.{IsNoRecord, IsRecord, HasWidths, arrival_line, closing_line, record_text};
 
 use cpm_run::Arrival;
 use std::alloc::{AllocError, Global};
@@ -78,7 +78,7 @@ fn is_in_order(arrivals: &[Arrival], last: u64) -> bool
     most <= last
 }
 
-/// What is before and what is after the first place of a byte.
+/// The parts before and after the first such byte.
 fn cut(text: &[u8], byte: u8) -> Option<(&[u8], &[u8])>
     ensures parts { MatchOption result (Lacks byte text.now) (λ found. Lacks byte found.0.now × (text.now ≡ found.0.now ++ byte ∷ found.1.now)) }
     ensures shorter { IfSome result (λ found. length found.1.now < length text.now) }
@@ -124,7 +124,7 @@ fn line_of(number: u64, word: &[u8]) -> Option<Line>
 
 /// The line at the front of a file of a session, and what follows it.
 fn first_line(text: &[u8]) -> Option<(Line, &[u8])>
-    ensures byte { (arrival : AnArrival) (rest : List ℕ) → IsWritable arrival → text.now ≡ arrival_line arrival ++ rest → MatchOption result ⊥ (λ found. (found.0 ≡ line.Byte arrival) × (found.1.now ≡ rest)) }
+    ensures byte { (arrival : TheArrival) (rest : List ℕ) → HasWidths arrival → text.now ≡ arrival_line arrival ++ rest → MatchOption result ⊥ (λ found. (found.0 ≡ line.Byte arrival) × (found.1.now ≡ rest)) }
     ensures end { (last : ℕ) (rest : List ℕ) → last < 2 ^ 64 → text.now ≡ closing_line last ++ rest → MatchOption result ⊥ (λ found. (found.0 ≡ line.End last) × (found.1.now ≡ rest)) }
     ensures shorter { IfSome result (λ found. length found.1.now < length text.now) }
 {
@@ -137,7 +137,7 @@ fn first_line(text: &[u8]) -> Option<(Line, &[u8])>
 
 /// What a file of a session has, as far as it can be read line by line.
 fn lines_of(alloc: Global, text: &[u8]) -> Result<Option<Recorded>, AllocError>
-    ensures { (arrivals : List AnArrival) (last : ℕ) → All IsWritable arrivals → last < 2 ^ 64 → text.now ≡ record_text arrivals last
+    ensures { (arrivals : List TheArrival) (last : ℕ) → All HasWidths arrivals → last < 2 ^ 64 → text.now ≡ record_text arrivals last
         → IfOk result (λ found. MatchOption found ⊥ (λ recorded. (recorded.arrivals.items ≡ arrivals) × (recorded.last ≡ last))) }
 {
     let mut arrivals = Vec::new(alloc);
@@ -152,7 +152,8 @@ fn lines_of(alloc: Global, text: &[u8]) -> Result<Option<Recorded>, AllocError>
     Ok(None)
 }
 
-/// Reads the file of a session. `None` if it is not one, byte for byte as [`record_file`] writes it, or if its numbers of steps go down.
+/// Reads the file of a session. `None` if it is not one, byte for byte as [`record_file`] writes it, or if a number of steps, also that of END,
+/// is smaller than the one before.
 pub fn read_record(alloc: Global, text: &[u8]) -> Result<Option<Recorded>, AllocError>
     ensures { IfOk result (λ found. MatchOption found (IsNoRecord text.now) (λ recorded. IsRecord text.now recorded.arrivals.items recorded.last)) }
 {

@@ -1,13 +1,8 @@
 use Rattle.std.proofs.Common.{◌≡◌, ◌∙◌, ◌++◌, ◌∷◌, [], ℕ, ap, sym, refl, codes, decimal, arith}
 use Rattle.hex.specs.Hex.{encode_upper}
 use Rattle.z80dev_run.specs.declared.recorded.Line.TheVariants as line
-use Rattle.z80dev_run.specs.Private.Cuts.{Lacks}
-use Rattle.z80dev_run.proofs.Cutting.{arrival_parts, closing_parts, decimal_lacks, hex_lacks, no_cut, one_cut}
+use Rattle.z80dev_run.proofs.Cutting.{arrival_parts, closing_parts, decimal_lacks, end_lacks, hex_lacks, no_cut, one_cut}
 use Rattle.z80dev_run.proofs.recorded.first_line.Goals as goal
-
--- the word END has no line feed
-end_lacks : Lacks 10 (codes "END")
-end_lacks = (refl, (refl, (refl, tt)))
 
 pub returns-in_err-digits-clause-byte : goal.returns-in_err-digits-clause-byte
 returns-in_err-digits-clause-byte c = λ a rest fits is. absurd (no_cut 32 c.args.text.now (decimal a.turn) ((encode_upper (a.byte ∷ [])) ++ 10 ∷ rest) c.in_err-digits.ensures.parts (is ∙ arrival_parts a rest))
