@@ -166,6 +166,18 @@ fn wider(name: Name) -> Option<&'static str> {
     }
 }
 
+/// What to load instead of a number that no byte holds into a register.
+fn load_help(alloc: Global, name: Name, written: &str) -> Result<Option<String>, AllocError> {
+    let Some(pair) = wider(name) else {
+        return Ok(None);
+    };
+    let help = format!(in alloc; "a pair holds a word: `LD {pair},{written}`")?;
+    if name == Name::B && (written == "256" || written.eq_ignore_ascii_case("100H")) {
+        return Ok(Some(format!(in alloc; "DJNZ counts 256 if B is 0: `LD B,0`; {help}")?));
+    }
+    Ok(Some(help))
+}
+
 /// What to write instead of a number that no byte holds, if it is written without names.
 fn literal_help(case: &Case<'_>, written: &str) -> Result<Option<String>, AllocError> {
     let alloc = case.alloc;
@@ -175,12 +187,7 @@ fn literal_help(case: &Case<'_>, written: &str) -> Result<Option<String>, AllocE
     let found = operands(case)?;
     if let (Some(Mnemonic::Ld), [to, _]) = (mnemonic_of(word), found.as_slice()) {
         if let Form::Name(name) = form_written(to) {
-            return Ok(match wider(name) {
-                Some(pair) => Some(format!(in alloc;
-                    "a pair holds a word: `LD {pair},{written}`"
-                )?),
-                None => None,
-            });
+            return load_help(alloc, name, written);
         }
     }
     if mnemonic_of(word).is_none() && found.len() == 1 {
@@ -245,7 +252,9 @@ fn displacement_help(
     if !builds(case, last.as_bytes())? {
         return Ok(None);
     }
-    let help = format!(in alloc; "`LD {pair},{number}`, `ADD {index},{pair}` and `{last}`")?;
+    let help = format!(in alloc;
+        "`LD {pair},{number}`, `ADD {index},{pair}` and `{last}`, which change {pair}, {index} and flags"
+    )?;
     if value >= 256 {
         return Ok(Some(help));
     }

@@ -1,8 +1,11 @@
 -- Lines of a source some of which have errors: as which lines they count when the others are judged, so that an error makes no further ones.
-use Rattle.std.specs.Prelude.{ℕ, ◌+◌, ◌==◌, ◌||◌, not, Bool, List, [], ◌∷◌, ◌++◌, Option, Some, None, Result, Ok, Err, if◌then◌else◌, codes, drop, is_ok, length, map}
-use Rattle.std.specs.List.{prefix_len}
+use Rattle.std.specs.Prelude.{ℕ, ◌+◌, ◌-◌, ◌==◌, ◌||◌, ◌&&◌, not, Bool, List, [], ◌∷◌, ◌++◌, Option, Some, None, Result, Ok, Err, if◌then◌else◌, codes, drop, is_ok, length, map, take}
+use Rattle.std.specs.List.{flat_map, prefix_len}
 use Rattle.std.specs.Option.{option_map, option_to_list}
+use Rattle.std.specs.Str.{str_eq_ignore_ascii_case}
+use Rattle.common.specs.Words.{upper, is_reserved}
 use Rattle.asm_line.specs.Forms.{Head, Equ, Word}
+use Rattle.asm_line.specs.Tokens.{is_name}
 use Rattle.asm_scan.specs.Tokens.{Lexeme}
 use Rattle.asm_text.specs.Lines.{Numbered, form_of}
 use Rattle.asm_spell.specs.Line.{Line}
@@ -15,14 +18,27 @@ use Rattle.asm_module.specs.declared.fault.Why.{Why}
 use Rattle.asm_module.specs.declared.line_fault.LineFault.{LineFault}
 use Rattle.source_errors.specs.Findings.{Finding}
 
--- The name that a line defines, as a line of its own: a label, or an EQU of itself, which has no value; an empty line if it defines none.
-abbrev pub alone_by : Option (List ℕ) → Head → List ℕ
-alone_by label (Equ name) = name ++ codes " EQU " ++ name
-alone_by (Some name) head = name ++ codes ":"
-alone_by None head = []
+-- the text of a token that is a name and not reserved, with a comma after it
+abbrev pub free_name : Lexeme → List ℕ
+free_name token = if is_name token && not (is_reserved (upper token.text)) then token.text ++ codes "," else []
+
+abbrev pub without_last : List ℕ → List ℕ
+without_last line = take (length line - 1) line
+
+-- The line that declares those of these tokens that may be names of externals. It cannot be parsed if there are none.
+abbrev pub extrn_of : List Lexeme → List ℕ
+extrn_of tokens = without_last (codes "EXTRN " ++ flat_map free_name tokens)
+
+-- The names that a line defines, as a line of its own: a label; an EQU of itself, which has no value; an EXTRN; an empty line if it defines
+-- none.
+abbrev pub alone_by : Option (List ℕ) → Head → List Lexeme → List ℕ
+alone_by label (Equ name) rest = name ++ codes " EQU " ++ name
+alone_by (Some name) head rest = name ++ codes ":"
+alone_by None (Word word) rest = if str_eq_ignore_ascii_case word (codes "EXTRN") then extrn_of rest else []
+alone_by None head rest = []
 
 abbrev pub defined_name_alone : List ℕ → List ℕ
-defined_name_alone text = alone_by (form_of text).label (form_of text).head
+defined_name_alone text = alone_by (form_of text).label (form_of text).head (form_of text).rest
 
 -- how many bytes come before what follows the first word of a line, given that word
 abbrev pub word_end : List ℕ → List ℕ → ℕ
@@ -32,11 +48,12 @@ word_end word text = prefix_len (λ byte. (byte == 32) || (byte == 9)) text + le
 abbrev pub with_colon : List ℕ → List ℕ → List ℕ
 with_colon word text = word ++ 58 ∷ drop (word_end word text) text
 
--- What is meant by a line that has an error: if it only lacks the colon after its first word, the line with that colon; otherwise the name
+-- What is meant by a line that has an error: if it only lacks the colon after its first word, the line with that colon; otherwise the names
 -- that it defines, alone.
 abbrev pub meant_by : List ℕ → Option (List ℕ) → Head → List Lexeme → List ℕ
-meant_by text None (Word word) (token ∷ rest) = if is_ok (read_line (with_colon word text)) then with_colon word text else []
-meant_by text label head rest = alone_by label head
+meant_by text None (Word word) (token ∷ rest) =
+    if is_ok (read_line (with_colon word text)) then with_colon word text else alone_by None (Word word) (token ∷ rest)
+meant_by text label head rest = alone_by label head rest
 
 abbrev pub meant_as : List ℕ → List ℕ
 meant_as text = meant_by text (form_of text).label (form_of text).head (form_of text).rest

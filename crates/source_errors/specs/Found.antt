@@ -1,7 +1,8 @@
 -- All errors of a source.
-use Rattle.std.specs.Prelude.{◌≡◌, ℕ, zero, suc, ◌-◌, ◌==◌, ◌&&◌, not, Bool, List, [], ◌∷◌, ◌++◌, Option, Some, None, Result, Ok, Err, false, filter, if◌then◌else◌, is_none, is_some, length, slice_index_or, take, true}
+use Rattle.std.specs.Prelude.{◌≡◌, ℕ, zero, suc, ◌-◌, ◌==◌, ◌&&◌, not, Bool, List, [], ◌∷◌, ◌++◌, Option, Some, None, Result, Ok, Err, false, filter, if◌then◌else◌, is_none, length, slice_index_or, take, true}
 use Rattle.std.specs.List.{filter_map, flat_map, list_any}
 use Rattle.std.specs.Option.{option_map}
+use Rattle.std.specs.Str.{bytes_eq}
 use Rattle.asm_scan.specs.declared.fault.ScanFault.{ScanFault}
 use Rattle.asm_scan.specs.Scanned.{scanned}
 use Rattle.asm_scan.specs.Tokens.{Lexeme}
@@ -71,17 +72,32 @@ abbrev pub is_circle : Why → Bool
 is_circle Why.EquCircle = true
 is_circle why = false
 
--- An EQU line that cannot be cut into tokens counts as a circle, so that its name has no value. The source has no such circle.
+-- An EQU line that cannot be cut into tokens counts as the line NAME EQU NAME, so that its name has no value. If the source does not have
+-- this line at its number, its circle is none of the source.
 abbrev pub is_made_circle : List ℕ → Finding → Bool
-is_made_circle text f = is_circle f.why && is_some (scan_fault (line_at text f.line.number))
+is_made_circle text f = is_circle f.why && bytes_eq f.line.text (defined_name_alone f.line.text) && not (bytes_eq f.line.text (line_at text f.line.number))
 
 abbrev pub without_made_circles : List ℕ → List Finding → List Finding
 without_made_circles text found = filter (λ f. not (is_made_circle text f)) found
 
--- All errors of a source: those of the lines of its expansion; or if that stops, this error, and if it stops for tokens, those of the
--- expansion in which lines that cannot be cut into tokens are mended.
+-- An expansion stops since a line cannot be cut into tokens.
+abbrev pub is_of_tokens : MacroFault → Bool
+is_of_tokens (MacroFault.Scan why) = true
+is_of_tokens MacroFault.LineTooLong = true
+is_of_tokens why = false
+
+-- The errors of the other lines, if the expansion stops for tokens at a line with this number: those of the expansion in which lines that
+-- cannot be cut into tokens are mended; none if that expansion stops too.
+pub data AreOthers (grow : Bool) (text : List ℕ) (number : ℕ) : List Finding → Type 0 where
+  unknown : (stop : ℕ × MacroFault) → IsExpanded (mended_text text) (Err stop) → AreOthers grow text number []
+  known : {lines : List Numbered} {found : List Finding} → IsExpanded (mended_text text) (Ok lines) → AreErrors grow lines found
+      → AreOthers grow text number (scan_errors number lines text ++ without_made_circles text found)
+
+-- All errors of a source: those of the lines of its expansion; or if that stops, this error, and if it stops for tokens, those of the other
+-- lines.
 pub data AreFindings (grow : Bool) (text : List ℕ) : List Finding → Type 0 where
   whole : {lines : List Numbered} {found : List Finding} → IsExpanded text (Ok lines) → AreErrors grow lines found → AreFindings grow text found
-  stopped : {number : ℕ} (why : MacroFault) → IsExpanded text (Err (number, why)) → AreFindings grow text (plain number (line_at text number) (macro_why why) ∷ [])
-  mends : {number : ℕ} {lines : List Numbered} {found : List Finding} (why : MacroFault) → IsExpanded text (Err (number, why)) → IsExpanded (mended_text text) (Ok lines) → AreErrors grow lines found
-      → AreFindings grow text (plain number (line_at text number) (macro_why why) ∷ scan_errors number lines text ++ without_made_circles text found)
+  stopped : {number : ℕ} (why : MacroFault) → IsExpanded text (Err (number, why)) → is_of_tokens why ≡ false
+      → AreFindings grow text (plain number (line_at text number) (macro_why why) ∷ [])
+  mends : {number : ℕ} {others : List Finding} (why : MacroFault) → IsExpanded text (Err (number, why)) → is_of_tokens why ≡ true → AreOthers grow text number others
+      → AreFindings grow text (plain number (line_at text number) (macro_why why) ∷ others)

@@ -1,16 +1,8 @@
 //! Finds all errors of a source.
 
-ghost use Rattle.std.specs.Prelude.{◌≡◌, ◌++◌, ◌∷◌, [], IfOk, IfSome, map, Some};
-ghost use Rattle.asm_names.specs.Lines.{lines_of};
-ghost use Rattle.asm_names.specs.Names.{names};
-ghost use Rattle.source_errors.specs.Findings.{finding_of};
-ghost use Rattle.source_errors.specs.Found.{AreFindings};
-
 use asm_expr::Names;
-use asm_macro::{Expanded, MacroFault, expand};
 use asm_module::Why;
 use asm_names::{NameTable, SourceLine};
-use std::alloc::{AllocError, Global};
 
 /// An error of a source.
 #[derive(Debug, Drop)]

@@ -1,14 +1,17 @@
 //! Makes texts of lines that have errors, as which these lines count.
 
-ghost use Rattle.std.specs.Prelude.{◌≡◌, ◌++◌, ◌==◌, ◌||◌, ◌≤◌, [], IfOk, codes, if◌then◌else◌, is_ok, length, not};
+ghost use Rattle.std.specs.Prelude.{◌≡◌, ◌++◌, ◌==◌, ◌||◌, ◌≤◌, IfOk, None, OnOk, Some, if◌then◌else◌, codes, is_ok, length, not};
 ghost use Rattle.std.specs.List.{prefix_len};
+ghost use Rattle.std.specs.Option.{option_map};
+ghost use Rattle.asm_scan.specs.Tokens.{lexeme, lexemes};
 ghost use Rattle.asm_line.specs.Views.{form_seen};
 ghost use Rattle.asm_module.specs.Reads.Read.{read_line};
-ghost use Rattle.source_errors.specs.Counted.{after_colon, alone_by, defined_name_alone, meant_as, meant_by, with_colon};
+ghost use Rattle.source_errors.specs.Counted.{after_colon, alone_by, defined_name_alone, extrn_of, free_name, meant_as, meant_by, with_colon};
 
 use crate::reading::read_line;
-use asm_line::{Form, Head, form_of};
-use asm_scan::{ScanFault, tokens};
+use asm_line::{Form, Head, form_of, is_name};
+use asm_scan::{ScanFault, Token, tokens};
+use common::is_reserved;
 use std::alloc::{AllocError, Global};
 
 /// Answers two parts as one text.
@@ -29,18 +32,44 @@ fn circle(alloc: Global, name: &[u8]) -> Result<Vec<u8>, AllocError>
     Ok(text)
 }
 
-/// Answers the line of only the name that a line of this form defines, or an empty one.
+/// Appends the text of a token and a comma, if it is a name that is not reserved.
+fn put_free_name(alloc: Global, token: &Token<'_>, line: &mut Vec<u8>) -> Result<(), AllocError>
+    ensures { OnOk result (line.new.items ≡ line.old.items ++ free_name (lexeme token.now)) }
+{
+    if is_name(token) && !is_reserved(&token.text.to_ascii_uppercase(alloc)?) {
+        line.extend_from_slice(token.text)?;
+        line.push(b',')?;
+    }
+    Ok(())
+}
+
+/// Answers the line that declares those of the tokens that may be names of externals. It cannot be parsed if there are none.
+fn extrn_of(alloc: Global, tokens: &[Token<'_>]) -> Result<Vec<u8>, AllocError>
+    ensures { IfOk result (λ line. line.items ≡ extrn_of (lexemes tokens.entry.now)) }
+{
+    let mut line = b"EXTRN ".to_vec(alloc)?;
+    for token in tokens {
+        put_free_name(alloc, token, &mut line)?;
+    }
+    line.truncate(line.len() - 1);
+    Ok(line)
+}
+
+/// Answers the line of only the names that a line of this form defines, or an empty one.
 fn alone(alloc: Global, form: Form<'_>) -> Result<Vec<u8>, AllocError>
-    ensures { IfOk result (λ text. text.items ≡ alone_by (form_seen form.entry).label (form_seen form.entry).head) }
+    ensures { IfOk result (λ text. text.items ≡ alone_by (form_seen form.entry).label (form_seen form.entry).head (form_seen form.entry).rest) }
 {
     match (form.head, form.label) {
         (Head::Equ(name), _) => circle(alloc, name),
         (_, Some(name)) => joined(alloc, name, b":"),
+        (Head::Word(word), None) if word.eq_ignore_ascii_case(b"EXTRN") => {
+            extrn_of(alloc, form.rest)
+        }
         (_, None) => Ok(Vec::new(alloc)),
     }
 }
 
-/// Answers the line of only the name that a line defines, or an empty one.
+/// Answers the line of only the names that a line defines, or an empty one.
 pub(crate) fn defined_name_alone(alloc: Global, text: &[u8]) -> Result<Vec<u8>, AllocError>
     ensures { IfOk result (λ alone. alone.items ≡ defined_name_alone text.now) }
 {
@@ -71,14 +100,14 @@ fn with_colon(alloc: Global, word: &[u8], text: &[u8]) -> Result<Vec<u8>, AllocE
     Ok(line)
 }
 
-/// Answers a line with a colon after its first word, if that can be parsed; otherwise an empty one.
-fn labelled(alloc: Global, word: &[u8], text: &[u8]) -> Result<Vec<u8>, AllocError>
-    ensures { IfOk result (λ line. line.items ≡ (if is_ok (read_line (with_colon word.now text.now)) then with_colon word.now text.now else [])) }
+/// Answers a line with a colon after its first word, if that can be parsed.
+fn labelled(alloc: Global, word: &[u8], text: &[u8]) -> Result<Option<Vec<u8>>, AllocError>
+    ensures { IfOk result (λ line. option_map (λ l. l.items) line ≡ (if is_ok (read_line (with_colon word.now text.now)) then Some (with_colon word.now text.now) else None)) }
 {
     let line = with_colon(alloc, word, text)?;
     match read_line(alloc, &line)? {
-        Ok(_) => Ok(line),
-        Err(_) => Ok(Vec::new(alloc)),
+        Ok(_) => Ok(Some(line)),
+        Err(_) => Ok(None),
     }
 }
 
@@ -87,12 +116,15 @@ fn meant_by(alloc: Global, text: &[u8], form: Form<'_>) -> Result<Vec<u8>, Alloc
     ensures { IfOk result (λ meant. meant.items ≡ meant_by text.now (form_seen form.entry).label (form_seen form.entry).head (form_seen form.entry).rest) }
 {
     match (form.label, form.head, form.rest) {
-        (None, Head::Word(word), [_, ..]) => labelled(alloc, word, text),
+        (None, Head::Word(word), [_, ..]) => match labelled(alloc, word, text)? {
+            Some(line) => Ok(line),
+            None => alone(alloc, form),
+        },
         _ => alone(alloc, form),
     }
 }
 
-/// Answers what is meant by a line that has an error: the line with a colon after its first word, or the line of only the name that it
+/// Answers what is meant by a line that has an error: the line with a colon after its first word, or the line of only the names that it
 /// defines, or an empty one.
 pub(crate) fn meant_as(alloc: Global, text: &[u8]) -> Result<Vec<u8>, AllocError>
     ensures { IfOk result (λ meant. meant.items ≡ meant_as text.now) }

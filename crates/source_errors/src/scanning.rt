@@ -1,13 +1,13 @@
 //! Finds lines that cannot be cut into tokens, and mends them, so that the others can be judged.
 
-ghost use Rattle.std.specs.Prelude.{◌≡◌, ◌<◌, ◌++◌, ◌∷◌, ◌==◌, ◌||◌, ◌^◌, ◌-◌, ◌&&◌, [], ℕ, List, IfOk, OnOk, false, filter, is_some, length, map, not, slice_index_or};
+ghost use Rattle.std.specs.Prelude.{◌≡◌, ◌<◌, ◌++◌, ◌∷◌, ◌==◌, ◌||◌, ◌^◌, [], ℕ, List, IfOk, OnOk, false, length, map, slice_index_or};
 ghost use Rattle.std.specs.List.{list_any};
 ghost use Rattle.std.specs.Option.{option_to_list};
 ghost use Rattle.asm_macro.specs.Texts.{source_lines};
 ghost use Rattle.asm_macro.specs.Views.{lines_seen};
 ghost use Rattle.asm_text.specs.Lines.{Numbered};
 ghost use Rattle.source_errors.specs.Findings.{finding_of};
-ghost use Rattle.source_errors.specs.Found.{front, is_circle, mended, mended_text, scan_error, scan_errors, scan_fault, without_made_circles};
+ghost use Rattle.source_errors.specs.Found.{front, is_made_circle, mended, mended_text, scan_error, scan_errors, scan_fault, without_made_circles};
 
 use crate::finding::Finding;
 use crate::mending::defined_name_alone;
@@ -67,41 +67,32 @@ pub fn mended_text(alloc: Global, lines: &Lines<'_>) -> Result<Vec<u8>, AllocErr
     Ok(text)
 }
 
-/// Answers for each line whether it cannot be cut into tokens.
-fn uncut_lines(alloc: Global, lines: &Lines<'_>) -> Result<Vec<bool>, AllocError>
-    ensures { IfOk result (λ flags. flags.items ≡ map (λ line. is_some (scan_fault line)) lines.now) }
+/// Whether an error is the circle of a line `NAME EQU NAME` that the source does not have.
+fn is_made_circle(alloc: Global, lines: &Lines<'_>, finding: &Finding) -> Result<bool, AllocError>
+    ensures { IfOk result (λ is_made. (text : List ℕ) → lines.now ≡ source_lines text → is_made ≡ is_made_circle text (finding_of finding.now)) }
 {
-    let mut flags = Vec::new(alloc);
-    for at in 0..lines.len() {
-        flags.push(fault_of(alloc, lines.line(at))?.is_some())?;
+    if !matches!(finding.why, Why::EquCircle) {
+        return Ok(false);
     }
-    Ok(flags)
+    let alone = defined_name_alone(alloc, &finding.text)?;
+    let at = (finding.number as usize).saturating_sub(1);
+    Ok(finding.text == alone && finding.text.as_slice() != lines.line(at))
 }
 
-/// Whether an error is a circle of a line that is marked.
-fn is_marked_circle(flags: &[bool], finding: &Finding) -> bool
-    ensures { result ≡ (is_circle finding.now.why && slice_index_or flags.now (finding.now.number - 1) false) }
-{
-    matches!(finding.why, Why::EquCircle) && is_read(flags, finding.number.saturating_sub(1))
-}
-
-/// Leaves out the circles of lines that are marked.
-fn leave_circles_out(flags: &[bool], findings: &mut Vec<Finding>)
-    ensures { findings.new.items ≡ filter (λ f. not (is_circle f.why && slice_index_or flags.now (f.number - 1) false)) findings.old.items }
-{
-    findings.retain(|finding| !is_marked_circle(flags, finding));
-}
-
-/// Leaves out the circles as which lines count that cannot be cut into tokens: the source does not have them.
-pub(crate) fn leave_made_circles_out(
+/// Appends errors, but the circles as which lines count that cannot be cut into tokens: the source does not have them.
+pub(crate) fn append_without_made_circles(
     alloc: Global,
     lines: &Lines<'_>,
+    others: Vec<Finding>,
     findings: &mut Vec<Finding>,
 ) -> Result<(), AllocError>
-    ensures { IfOk result (λ _. (text : List ℕ) → lines.now ≡ source_lines text → map finding_of findings.new.items ≡ without_made_circles text (map finding_of findings.old.items)) }
+    ensures { OnOk result ((text : List ℕ) → lines.now ≡ source_lines text → map finding_of findings.new.items ≡ map finding_of findings.old.items ++ without_made_circles text (map finding_of others.items)) }
 {
-    let flags = uncut_lines(alloc, lines)?;
-    leave_circles_out(&flags, findings);
+    for finding in others {
+        if !is_made_circle(alloc, lines, &finding)? {
+            findings.push(finding)?;
+        }
+    }
     Ok(())
 }
 

@@ -7,15 +7,16 @@ ghost use Rattle.asm_statements.specs.Program.Spelled.{IsLineOfText};
 ghost use Rattle.asm_module.specs.Whys.{macro_why};
 ghost use Rattle.source_errors.specs.Counted.{counted_after, early_after};
 ghost use Rattle.asm_macro.specs.Expands.{IsExpanded};
+ghost use Rattle.asm_macro.specs.Texts.{source_lines};
 ghost use Rattle.asm_macro.specs.Views.{lines_seen};
-ghost use Rattle.source_errors.specs.Findings.{finding_of, name_told};
-ghost use Rattle.source_errors.specs.Found.{AreErrors, AreFindings};
+ghost use Rattle.source_errors.specs.Findings.{Finding as Found, finding_of, name_told};
+ghost use Rattle.source_errors.specs.Found.{AreErrors, AreFindings, AreOthers, is_of_tokens};
 ghost use Rattle.source_errors.specs.Private.State.{IsCounting, counted_in, why_of};
 
 use crate::counting::{Counting, count_lines};
 use crate::finding::{Finding, Findings, Known};
 use crate::judging::judge_lines;
-use crate::scanning::{leave_made_circles_out, mended_text, put_scan_errors};
+use crate::scanning::{append_without_made_circles, mended_text, put_scan_errors};
 use asm_macro::{Expanded, MacroFault, expand, source_part};
 use asm_module::Why;
 use asm_names::{NameFault, names_of};
@@ -106,7 +107,9 @@ fn errors_in(
 }
 
 /// Whether an expansion stops since a line cannot be cut into tokens.
-fn is_of_tokens(why: MacroFault) -> bool {
+fn is_of_tokens(why: MacroFault) -> bool
+    ensures { result ≡ is_of_tokens why }
+{
     matches!(why, MacroFault::Scan(_) | MacroFault::LineTooLong)
 }
 
@@ -128,6 +131,34 @@ fn stop_at(
     })
 }
 
+/// Appends the errors of other lines to the one at which an expansion stops, if the mended source can be expanded. Answers what is known
+/// of that source.
+fn put_others(
+    alloc: Global,
+    lines: &Lines<'_>,
+    number: u32,
+    grow: bool,
+    findings: &mut Vec<Finding>,
+) -> Result<Option<Known>, AllocError>
+    requires { length lines.now < 2 ^ 32 }
+    ensures { OnOk result ((text : List ℕ) → lines.now ≡ source_lines text → (others : List Found) × AreOthers grow text number others × (map finding_of findings.new.items ≡ map finding_of findings.old.items ++ others)) }
+{
+    let mended = mended_text(alloc, lines)?;
+    match expand(alloc, &mended) {
+        Ok(expanded) => {
+            put_scan_errors(alloc, number, &expanded.lines, lines, findings)?;
+            let Findings {
+                findings: others,
+                known,
+            } = errors_in(alloc, &mended, expanded, grow)?;
+            append_without_made_circles(alloc, lines, others, findings)?;
+            Ok(known)
+        }
+        Err((_, MacroFault::NoMemory)) => Err(AllocError),
+        Err(_) => Ok(None),
+    }
+}
+
 /// Answers the errors of a source whose expansion stops.
 fn stopped(
     alloc: Global,
@@ -143,34 +174,16 @@ fn stopped(
     if lines.len() > u32::MAX as usize {
         return Err(AllocError);
     }
-    let stop = stop_at(alloc, &lines, number, why)?;
     let mut findings = Vec::new(alloc);
-    findings.push(stop)?;
+    findings.push(stop_at(alloc, &lines, number, why)?)?;
     if !is_of_tokens(why) {
         return Ok(Findings {
             findings,
             known: None,
         });
     }
-    let mended = mended_text(alloc, &lines)?;
-    match expand(alloc, &mended) {
-        Ok(expanded) => {
-            put_scan_errors(alloc, number, &expanded.lines, &lines, &mut findings)?;
-            let rest = errors_in(alloc, &mended, expanded, grow)?;
-            let Findings {
-                findings: mut others,
-                known,
-            } = rest;
-            leave_made_circles_out(alloc, &lines, &mut others)?;
-            findings.append(&mut others)?;
-            Ok(Findings { findings, known })
-        }
-        Err((_, MacroFault::NoMemory)) => Err(AllocError),
-        Err(_) => Ok(Findings {
-            findings,
-            known: None,
-        }),
-    }
+    let known = put_others(alloc, &lines, number, grow, &mut findings)?;
+    Ok(Findings { findings, known })
 }
 
 /// Answers all errors of a source: of each line by itself, then those of values and names. If its expansion stops, since a line cannot be
