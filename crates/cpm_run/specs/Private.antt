@@ -1,2 +1,3 @@
 -- Definitions that only private contracts use, so no public promise depends on them.
+pub mod Asking
 pub mod Playing

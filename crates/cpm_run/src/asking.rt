@@ -1,5 +1,8 @@
 //! What a program needs of the keyboard at its next step.
 
+ghost use Rattle.std.specs.Prelude.{◌≡◌};
+ghost use Rattle.cpm_run.specs.Private.Asking.{need_of, need_of_function};
+
 use crate::places::{BDOS, bios_entry};
 use cpm_bdos::{BiosEntry, ConsoleCall, Function};
 use z80_cpu::Cpu;
@@ -20,7 +23,9 @@ pub(crate) enum Need {
 const ANY_INPUT: u8 = 0xFF;
 
 /// What a call of the BDOS needs.
-fn needed_by_call(cpu: &Cpu) -> Need {
+fn needed_by_call(cpu: &Cpu) -> Need
+    ensures { result ≡ need_of_function cpu.now.main.c cpu.now.main.e }
+{
     match Function::of(cpu.main.c) {
         Some(Function::Console(ConsoleCall::Input)) => Need::Byte,
         Some(Function::Console(ConsoleCall::ReadLine)) => Need::Line,
@@ -31,7 +36,9 @@ fn needed_by_call(cpu: &Cpu) -> Need {
 }
 
 /// What the next step needs.
-pub(crate) fn needed(cpu: &Cpu) -> Need {
+pub(crate) fn needed(cpu: &Cpu) -> Need
+    ensures { result ≡ need_of cpu.now }
+{
     if cpu.pc == BDOS {
         return needed_by_call(cpu);
     }

@@ -72,6 +72,7 @@ impl<S: Sectors> Playing<S> {
         ensures state { state_of result [] ≡ first_state cpu memory disk }
         ensures ahead { result.ahead.items ≡ [] }
         ensures ended { result.ended ≡ false }
+        ensures looked { result.looked ≡ 0 }
     {
         let console = MemoryConsole::new(alloc, Vec::new(alloc));
         Playing {

@@ -1,10 +1,13 @@
 //! What a session does before a step that asks for input.
 
-ghost use Rattle.std.specs.Prelude.{◌≡◌, [], IfOk, List, OnOk, Option, ℕ};
+ghost use Rattle.std.specs.Prelude.{◌≡◌, ◌≢◌, ◌<◌, ◌≤◌, ◌-◌, [], IfOk, List, OnOk, Option, true, ℕ};
 ghost use Rattle.cpm_console.specs.Dialog.{dialog_of, put_by};
-ghost use Rattle.cpm_console.specs.Line.{line_transcript};
-ghost use Rattle.cpm_run.specs.Play.{IsEcho, PlayState};
+ghost use Rattle.cpm_console.specs.Line.{NoInput, line_transcript, typed_line};
+ghost use Rattle.cpm_console.specs.Screen.{screen};
+ghost use Rattle.cpm_run.specs.Play.{IsEcho, PlayState, line_room};
 ghost use Rattle.cpm_run.specs.Seat.{Seat};
+ghost use Rattle.cpm_run.specs.Private.Asking.{IsReady, need_of};
+ghost use Rattle.cpm_run.specs.declared.asking.Need.TheVariants as need;
 ghost use Rattle.cpm_run.specs.Private.Playing.{Continues, IsBetween, IsStill, SoFar, Waits, WaitsOn, state_of};
 
 use crate::arriving::PlayEnd;
@@ -40,7 +43,9 @@ fn patience_for(need: Need) -> Patience {
 
 /// What function 10 puts for these bytes.
 fn echo_of(alloc: Global, typed: &[u8], column: u16, room: u8) -> Result<Echo, AllocError>
-    ensures { IfOk result (λ echo. echo.bytes.items ≡ put_by (line_transcript room (record { bytes = []; start = column; column = column }) typed.now).events) }
+    ensures whole { IfOk result (λ echo. echo.is_whole ≡ true → (line_transcript room (record { bytes = []; start = column; column = column }) typed.now).ending ≢ NoInput) }
+    ensures part { IfOk result (λ echo. (line_transcript room (record { bytes = []; start = column; column = column }) typed.now).ending ≢ NoInput → echo.is_whole ≡ true) }
+    ensures bytes { IfOk result (λ echo. echo.bytes.items ≡ put_by (line_transcript room (record { bytes = []; start = column; column = column }) typed.now).events) }
 {
     let mut input = Vec::with_capacity(alloc, typed.len())?;
     input.extend_from_slice(typed)?;
@@ -63,6 +68,7 @@ impl<S: Sectors> Playing<S> {
     /// Waits until a byte is there, or no byte will come.
     fn await_byte<K: Station>(&mut self, alloc: Global, station: &mut K) -> Result<(), PlayEnd>
         ensures still { IsStill self.old self.new }
+        ensures ready { OnOk result (IsReady need.Byte (state_of self.new []).run self.new.ended) }
         ensures waits { (limit : ℕ) (start : PlayState S) (before : Seat) → Waits S.sectors S.faults limit start before self.old (K.seat station.old) → self.old.ahead.items ≡ []
             → WaitsOn S.sectors S.faults limit result start before self.new (K.seat station.new) }
     {
@@ -78,6 +84,8 @@ impl<S: Sectors> Playing<S> {
     /// Shows the echo of the line that is being typed, as far as it is not shown yet. Answers whether the line is whole.
     fn echo<K: Station>(&mut self, alloc: Global, station: &mut K) -> Result<bool, PlayEnd>
         ensures still { IsStill self.old self.new }
+        ensures ended { self.new.ended ≡ self.old.ended }
+        ensures whole { IfOk result (λ whole. whole ≡ true → (typed_line (line_room (state_of self.new []).run) (screen (λ d. d) self.new.bdos.terminal)).ending ≢ NoInput) }
         ensures echo { OnOk result (IsEcho (state_of self.new []).run self.new.ahead.items) }
         ensures waits { (limit : ℕ) (start : PlayState S) (before : Seat) → Waits S.sectors S.faults limit start before self.old (K.seat station.old) → WaitsOn S.sectors S.faults limit result start before self.new (K.seat station.new) }
     {
@@ -96,6 +104,7 @@ impl<S: Sectors> Playing<S> {
     /// Waits until a line is whole, or no byte will come. Shows what is typed meanwhile.
     fn await_line<K: Station>(&mut self, alloc: Global, station: &mut K) -> Result<(), PlayEnd>
         ensures still { IsStill self.old self.new }
+        ensures ready { OnOk result (IsReady need.Line (state_of self.new []).run self.new.ended) }
         ensures waits { (limit : ℕ) (start : PlayState S) (before : Seat) → Waits S.sectors S.faults limit start before self.old (K.seat station.old) → WaitsOn S.sectors S.faults limit result start before self.new (K.seat station.new) }
     {
         for _ in 0..MOST_WAITS {
@@ -112,6 +121,7 @@ impl<S: Sectors> Playing<S> {
     /// Shows all, and looks at the keyboard once or until the next step has what it takes.
     fn ask<K: Station>(&mut self, alloc: Global, station: &mut K, need: Need) -> Result<(), PlayEnd>
         ensures still { IsStill self.old self.new }
+        ensures ready { OnOk result (IsReady need (state_of self.new []).run self.new.ended) }
         ensures so_far { (limit : ℕ) (start : PlayState S) (before : Seat) → SoFar S.sectors S.faults start before self.old (K.seat station.old) → IsBetween limit self.old → Continues S.sectors S.faults limit result start before self.new (K.seat station.new) }
     {
         self.show_all(station)?;
@@ -129,13 +139,16 @@ impl<S: Sectors> Playing<S> {
         station: &mut K,
     ) -> Result<(), PlayEnd>
         ensures still { IsStill self.old self.new }
+        ensures ready { OnOk result (IsReady (need_of self.old.cpu) (state_of self.new []).run self.new.ended) }
+        ensures looked { OnOk result ((self.new.turns - self.new.looked < 2000000) × (self.old.looked ≤ self.old.turns → self.new.looked ≤ self.new.turns)) }
         ensures so_far { (limit : ℕ) (start : PlayState S) (before : Seat) → SoFar S.sectors S.faults start before self.old (K.seat station.old) → IsBetween limit self.old → Continues S.sectors S.faults limit result start before self.new (K.seat station.new) }
     {
         let need = needed(&self.cpu);
         if need == Need::Nothing && self.turns.saturating_sub(self.looked) < LONGEST_UNSEEN {
             return Ok(());
         }
+        self.ask(alloc, station, need)?;
         self.looked = self.turns;
-        self.ask(alloc, station, need)
+        Ok(())
     }
 }
