@@ -11,3 +11,4 @@ mod OneMove
 mod Parts
 mod Ranges
 pub mod Talking
+mod Coding

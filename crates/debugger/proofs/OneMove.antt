@@ -17,7 +17,7 @@ use Rattle.debugger.specs.declared.command.Command.{Command}
 use Rattle.debugger.specs.declared.command.Command.TheVariants as command
 use Rattle.debugger.specs.declared.history.Outcome.{Outcome}
 use Rattle.debugger.specs.declared.history.Outcome.TheVariants as outcome
-use Rattle.debugger.specs.declared.session.TheConstants.{MOST_TURNS}
+use Rattle.debugger.specs.Text.{most_turns}
 use Rattle.debugger.specs.declared.stops.Goal.{Goal}
 use Rattle.debugger.specs.declared.stops.Goal.TheVariants as goal
 use Rattle.debugger.specs.declared.stops.Hit.{Hit}
@@ -377,7 +377,7 @@ module _ (one_step : OneStep) (printed : List ℕ) (old other new there : Shown)
 
   runs_same : (stops : Stops) (goal aim : Option Goal) → aim ≡ goal → RunsOn goal stops old new told → RunsOn aim stops other there said → Same
   runs_same stops goal aim e one two =
-      let limit : ℕ → ℕ = λ (turn : ℕ). min MOST_TURNS (last_turn - turn) in
+      let limit : ℕ → ℕ = λ (turn : ℕ). min most_turns (last_turn - turn) in
       let their_way = subst (λ (n : ℕ). RanUntil goal stops (limit n) other there two.0) alike.turn (subst (λ (g : Option Goal). RanUntil g stops (limit other.turn) other there two.0) e two.2) in
       let both = one_stop one_step printed goal stops (limit old.turn) old other new there one.0 two.0 alike.points alike.turn calm quiet one.2 their_way in
       (two.1 ∙ ap (λ (o : Outcome). told_of o) both.0 ∙ sym one.1, record { starts = starts; turn = both.1; points = both.2 })

@@ -13,7 +13,6 @@ use Rattle.debugger.specs.declared.conversation.Broken.{Broken}
 use Rattle.debugger.specs.declared.conversation.Broken.TheVariants as broken
 use Rattle.debugger.specs.declared.debugging.DebugFault.{DebugFault}
 use Rattle.debugger.specs.declared.debugging.DebugFault.TheVariants as debug
-use Rattle.debugger.specs.declared.conversation.TheConstants.{MOST_READS}
 use Rattle.debugger.specs.declared.stops.Stops.{Stops}
 use Rattle.debugger.specs.Going.{IsFirstShown}
 use Rattle.debugger.specs.Labelled.{Known}
@@ -36,7 +35,7 @@ ReadsOn old new failed result = (new.failures ≡ old.failures) × (failed ≡ f
 -- ran out.
 abbrev pub Converses : Stream → Stream → Bool → ℕ → Result Unit Broken → Type 0
 Converses old new failed reads (Err broken.Output) = (new.failures ≡ counted old.failures) × (failed ≡ false)
-Converses old new failed reads (Err broken.Input) = (new.failures ≡ old.failures) × ((failed ≡ true) ⊎ (reads ≡ MOST_READS))
+Converses old new failed reads (Err broken.Input) = (new.failures ≡ old.failures) × ((failed ≡ true) ⊎ (reads ≡ 4294967296))
 Converses old new failed reads result = (new.failures ≡ old.failures) × (failed ≡ false)
 
 -- what a session shows, its breakpoints and watched bytes, and whether it was quit

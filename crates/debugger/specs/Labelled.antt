@@ -3,7 +3,7 @@ use Rattle.std.specs.Prelude.{◌≡◌, ◌<◌, ◌+◌, ◌-◌, ◌==◌, �
 use Rattle.std.specs.Option.{option_map}
 use Rattle.debugger.specs.declared.command.Symbol.{Symbol}
 use Rattle.debugger.specs.declared.labels.Named.{Named}
-use Rattle.debugger.specs.declared.labels.TheConstants.{ADDRESSES, FIRST_ADDRESS}
+use Rattle.debugger.specs.Printing.Columns.{word_text}
 
 -- the labels of a program, each with its address, in the order of their file; and the number of the program's bytes
 pub record Known : Type 0 where
@@ -36,7 +36,7 @@ abbrev pub offset_from : List (ℕ × List ℕ) → ℕ → ℕ → Option (List
 offset_from labels address n = if n == 0 then None else option_map (λ label. (label.1, address - label.0)) (slice_get labels (n - 1))
 
 abbrev pub is_in_program : ℕ → ℕ → Bool
-is_in_program size address = nat_le FIRST_ADDRESS address && nat_lt (address - FIRST_ADDRESS) size
+is_in_program size address = nat_le 0x100 address && nat_lt (address - 0x100) size
 
 -- the label of an address of the program, and how many bytes after it the address is
 abbrev pub nearest_label : Known → ℕ → Option (List ℕ × ℕ)
@@ -44,8 +44,8 @@ nearest_label known address = if is_in_program known.size address then offset_fr
 
 -- the number of the label of each address
 pub record AreNumbers (labels : List (ℕ × List ℕ)) (numbers : List ℕ) : Type 0 where
-  pub size : length numbers ≡ ADDRESSES
-  pub each : (address : ℕ) → address < ADDRESSES → slice_index numbers address ≡ nearest_number labels address
+  pub size : length numbers ≡ 0x10000
+  pub each : (address : ℕ) → address < 0x10000 → slice_index numbers address ≡ nearest_number labels address
 
 -- the same, if there are labels; otherwise the numbers may be any
 abbrev pub AreNumbersIfAny : List (ℕ × List ℕ) → List ℕ → Type 0
@@ -59,3 +59,12 @@ offset_text n = if n == 0 then [] else codes "+" ++ decimal n
 abbrev pub nearest_text : Option (List ℕ × ℕ) → List ℕ
 nearest_text None = codes "-"
 nearest_text (Some label) = label.0 ++ offset_text label.1
+
+-- a blank and a label with the distance from it, if there is one
+abbrev pub label_after : Option (List ℕ × ℕ) → List ℕ
+label_after None = []
+label_after (Some label) = codes " " ++ label.0 ++ offset_text label.1
+
+-- an address in four hexadecimal digits, with its label, if it has one
+abbrev pub labelled_address : Known → ℕ → List ℕ
+labelled_address known address = word_text address ++ label_after (nearest_label known address)

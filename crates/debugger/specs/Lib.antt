@@ -3,6 +3,7 @@ pub mod Walk
 pub mod Calls
 pub mod Stops
 pub mod Labelled
+pub mod Instructions
 pub mod Going
 pub mod Alike
 pub mod Printing

@@ -7,7 +7,6 @@ use Rattle.debugger.specs.declared.command.Command.{Command}
 use Rattle.debugger.specs.declared.command.Command.TheVariants as command
 use Rattle.debugger.specs.declared.history.Outcome.{Outcome}
 use Rattle.debugger.specs.declared.history.Outcome.TheVariants as outcome
-use Rattle.debugger.specs.declared.session.TheConstants.{MOST_TURNS}
 use Rattle.debugger.specs.declared.stops.Goal.{Goal}
 use Rattle.debugger.specs.declared.stops.Goal.TheVariants as goal
 use Rattle.debugger.specs.declared.stops.Hit.{Hit}
@@ -17,7 +16,7 @@ use Rattle.debugger.specs.Calls.{IsCallBefore, call_place, shown_place}
 use Rattle.debugger.specs.Going.{RanUntil, ShowsTurn}
 use Rattle.debugger.specs.Labelled.{Known}
 use Rattle.debugger.specs.Stops.{IsLast}
-use Rattle.debugger.specs.Text.{Says}
+use Rattle.debugger.specs.Text.{Says, most_turns}
 use Rattle.debugger.specs.Typed.{Reading, line_meaning, refusal_line}
 use Rattle.debugger.specs.Walk.{IsTrue_of_run, Shown}
 
@@ -25,10 +24,10 @@ use Rattle.debugger.specs.Walk.{IsTrue_of_run, Shown}
 abbrev pub last_turn : ℕ
 last_turn = 2 ^ 64 - 1
 
--- Turns are made until a breakpoint or a watched byte holds, the goal is reached, or the run ends; at most MOST_TURNS. The answer is which of
+-- Turns are made until a breakpoint or a watched byte holds, the goal is reached, or the run ends; at most 100,000,000. The answer is which of
 -- these it was.
 abbrev pub RunsOn : Option Goal → Stops → Shown → Shown → Option Outcome → Type 0
-RunsOn goal stops old new told = (outcome : Outcome) × (told ≡ Some outcome) × RanUntil goal stops (min MOST_TURNS (last_turn - old.turn)) old new outcome
+RunsOn goal stops old new told = (outcome : Outcome) × (told ≡ Some outcome) × RanUntil goal stops (min most_turns (last_turn - old.turn)) old new outcome
 
 -- the point after this number of turns is shown, and there is no answer
 abbrev pub GoesTo : ℕ → Shown → Option Outcome → Type 0

@@ -3,8 +3,9 @@ use Rattle.std.specs.Prelude.{◌≡◌, ◌+◌, ◌==◌, ◌&&◌, ℕ, Bool,
 use Rattle.std.specs.List.{flat_map, starts_with}
 use Rattle.bstr.specs.Text.{lines_of, without_terminator}
 use Rattle.cpm_run.specs.Turns.{bdos}
+use Rattle.cpm_run.specs.declared.ending.Why.{Why}
 use Rattle.hex.specs.Hex.{encode_upper}
-use Rattle.z80_cpu.specs.State.{up_by}
+use Rattle.z80_cpu.specs.State.{Machine, up_by, word_at}
 use Rattle.debugger.specs.Printing.Columns.{word_text}
 use Rattle.debugger.specs.Printing.Memory.{memory_text, shown_character}
 use Rattle.debugger.specs.Printing.Registers.{registers_text}
@@ -12,28 +13,18 @@ use Rattle.debugger.specs.declared.command.Command.{Command}
 use Rattle.debugger.specs.declared.command.Command.TheVariants as command
 use Rattle.debugger.specs.declared.history.Outcome.{Outcome}
 use Rattle.debugger.specs.declared.history.Outcome.TheVariants as outcome
-use Rattle.debugger.specs.declared.session.TheConstants.{MOST_TURNS}
+use Rattle.debugger.specs.declared.session.TheConstants.{HELP}
 use Rattle.debugger.specs.declared.stops.Breakpoint.{Breakpoint}
 use Rattle.debugger.specs.declared.stops.Change.{Change}
 use Rattle.debugger.specs.declared.stops.Condition.{Condition}
 use Rattle.debugger.specs.declared.stops.Hit.{Hit}
 use Rattle.debugger.specs.declared.stops.Hit.TheVariants as hit
 use Rattle.debugger.specs.declared.stops.Stops.{Stops}
-use Rattle.debugger.specs.Labelled.{Known, nearest_label, offset_text}
+use Rattle.debugger.specs.Instructions.{AreShown, WritesCode, WritesInstruction}
+use Rattle.debugger.specs.Labelled.{Known, labelled_address}
 use Rattle.debugger.specs.Stops.{IsLast}
 use Rattle.debugger.specs.Typed.{register_name}
 use Rattle.debugger.specs.Walk.{Shown}
-
--- ---- addresses with their labels
-
--- a blank and a label with the distance from it, if there is one
-abbrev pub label_after : Option (List ℕ × ℕ) → List ℕ
-label_after None = []
-label_after (Some label) = codes " " ++ label.0 ++ offset_text label.1
-
--- an address in four hexadecimal digits, with its label, if it has one
-abbrev pub labelled_address : Known → ℕ → List ℕ
-labelled_address known address = word_text address ++ label_after (nearest_label known address)
 
 -- ---- breakpoints and watched bytes
 
@@ -146,24 +137,48 @@ since before now = drop (length before) now
 
 -- ---- the commands that go to another turn
 
+-- the most turns of one command that runs to something
+abbrev pub most_turns : ℕ
+most_turns = 100000000
+
 -- why such a command has stopped before the end of the run, unless it has come to where it was to come
 abbrev pub outcome_text : Known → Option Outcome → List ℕ
 outcome_text known (Some (outcome.Held (hit.Breakpoint address))) = codes "breakpoint " ++ labelled_address known address ++ codes "\n"
 outcome_text known (Some (outcome.Held (hit.Changed change))) = codes "watch " ++ change_line known change
-outcome_text known (Some outcome.Limit) = codes "limit of " ++ decimal MOST_TURNS ++ codes " turns\n"
+outcome_text known (Some outcome.Limit) = codes "limit of " ++ decimal most_turns ++ codes " turns\n"
 outcome_text known told = []
 
--- the line of a point: its number of turns, PC, and what is there, which may be any text
+-- What is there: why the run has ended, in words that are not said here; or the instruction.
+abbrev pub WritesPoint : Option Why → Machine → List ℕ → Type 0
+WritesPoint (Some why) machine what = AreShown what
+WritesPoint None machine what = WritesInstruction machine machine.cpu.pc what
+
+-- the line of a point: its number of turns, PC, and what is there
 abbrev pub point_line : Known → ℕ → ℕ → List ℕ → List ℕ
 point_line known turn pc what = codes "turn " ++ decimal turn ++ codes " at " ++ labelled_address known pc ++ codes ": " ++ what ++ codes "\n"
 
 -- What the program has printed since, why the command has stopped, and what is shown now.
 abbrev pub SaysWhere : Option Outcome → Shown → Shown → Known → List ℕ → Type 0
 SaysWhere told old new known text =
-    (before : List ℕ) × (now : List ℕ) × (what : List ℕ) × Printed old before × Printed new now × (text ≡ output_text (since before now) ++ outcome_text known told ++ point_line known new.turn new.point.state.machine.cpu.pc what)
+    (before : List ℕ) × (now : List ℕ) × (what : List ℕ) × Printed old before × Printed new now × WritesPoint new.point.end new.point.state.machine what
+    × (text ≡ output_text (since before now) ++ outcome_text known told ++ point_line known new.turn new.point.state.machine.cpu.pc what)
 
--- ---- what a command prints, given the breakpoints and watched bytes before it, how it ended, and what is shown before and after it. Of `dis`,
--- `stack`, `files` and `help` this says nothing.
+-- ---- the stack
+
+-- SP, or an address above it, and the word there as an address with its label
+abbrev pub stack_line : Known → List ℕ → ℕ → List ℕ
+stack_line known memory sp = word_text sp ++ codes ": " ++ labelled_address known (word_at sp memory) ++ codes "\n"
+
+-- how far the eight words on top of the stack are from SP
+abbrev pub stack_offsets : List ℕ
+stack_offsets = 0 ∷ 2 ∷ 4 ∷ 6 ∷ 8 ∷ 10 ∷ 12 ∷ 14 ∷ []
+
+-- their lines
+abbrev pub stack_text : Known → List ℕ → ℕ → List ℕ
+stack_text known memory sp = flat_map (λ offset. stack_line known memory (up_by offset sp)) stack_offsets
+
+-- ---- what a command prints, given the breakpoints and watched bytes before it, how it ended, and what is shown before and after it. Of
+-- `files` this says nothing.
 abbrev pub Says : Command → Stops → Option Outcome → Shown → Shown → Known → List ℕ → List ℕ → Type 0
 Says command.Registers stops told old shown known listing text = text ≡ registers_text shown.point.state.machine.cpu shown.point.state.system.dma shown.point.state.system.user
 Says (command.Memory from count) stops told old shown known listing text = text ≡ memory_text shown.point.state.machine.memory from count
@@ -173,6 +188,9 @@ Says (command.Break breakpoint) stops told old shown known listing text = text �
 Says (command.Watch from count) stops told old shown known listing text = text ≡ watch_line known from count
 Says command.Delete stops told old shown known listing text = text ≡ stops_text (codes "deleted ") known stops
 Says command.Info stops told old shown known listing text = text ≡ stops_text [] known stops
+Says (command.Disassemble from count) stops told old shown known listing text = WritesCode known shown.point.state.machine from count text
+Says command.Stack stops told old shown known listing text = text ≡ stack_text known shown.point.state.machine.memory shown.point.state.machine.cpu.sp
+Says command.Help stops told old shown known listing text = text ≡ HELP.now
 Says command.Quit stops told old shown known listing text = text ≡ []
 Says command.Output stops told old shown known listing text = (bytes : List ℕ) × Printed shown bytes × (text ≡ output_text bytes)
 Says (command.Step count) stops told old shown known listing text = SaysWhere told old shown known text

@@ -45,7 +45,7 @@ pub(crate) struct Keeper<'a> {
 }
 
 impl<'a> Keeper<'a> {
-    ghost use Rattle.std.specs.Prelude.{◌≡◌, ◌≤◌, [], All, IfSome};
+    ghost use Rattle.std.specs.Prelude.{◌≡◌, ◌≤◌, [], All, IfSome, length};
     ghost use Rattle.debugger.specs.Private.Kept.{IsKept};
     ghost use Rattle.debugger.specs.Walk.{IsAfter, MemoryState};
 
@@ -62,7 +62,8 @@ impl<'a> Keeper<'a> {
 
     /// Leaves out every second state.
     fn thin(&mut self)
-        ensures { (start : MemoryState) → All (IsKept start) self.old.states.items → All (IsKept start) self.new.states.items }
+        ensures few { length self.new.states.items ≤ length self.old.states.items }
+        ensures known { (start : MemoryState) → All (IsKept start) self.old.states.items → All (IsKept start) self.new.states.items }
     {
         let distance = self.distance.saturating_mul(2);
         self.distance = distance;
@@ -72,7 +73,8 @@ impl<'a> Keeper<'a> {
 
     /// Leaves out every second state if there are too many for one more.
     fn make_room(&mut self)
-        ensures { (start : MemoryState) → All (IsKept start) self.old.states.items → All (IsKept start) self.new.states.items }
+        ensures few { length self.new.states.items ≤ length self.old.states.items }
+        ensures known { (start : MemoryState) → All (IsKept start) self.old.states.items → All (IsKept start) self.new.states.items }
     {
         if self.states.len() >= MOST_KEPT {
             self.thin();
@@ -81,7 +83,8 @@ impl<'a> Keeper<'a> {
 
     /// Keeps a copy of a state, if one is to be kept and there is memory for it. Without it, going back takes longer.
     pub(crate) fn keep(&mut self, alloc: Global, turn: u64, point: &Point<'a>)
-        ensures { (start : MemoryState) → All (IsKept start) self.old.states.items → IsAfter start turn point.now → All (IsKept start) self.new.states.items }
+        ensures few { length self.old.states.items ≤ 64 → length self.new.states.items ≤ 64 }
+        ensures known { (start : MemoryState) → All (IsKept start) self.old.states.items → IsAfter start turn point.now → All (IsKept start) self.new.states.items }
     {
         if turn < self.next {
             return;
@@ -91,7 +94,9 @@ impl<'a> Keeper<'a> {
             return;
         };
         self.make_room();
-        let _ = self.states.push(Kept { turn, snapshot });
+        if self.states.len() < MOST_KEPT {
+            let _ = self.states.push(Kept { turn, snapshot });
+        }
     }
 
     /// The latest state that is kept up to this number.

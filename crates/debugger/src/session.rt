@@ -81,10 +81,11 @@ impl<'a> Session<'a> {
     ghost use Rattle.std.specs.Prelude.{◌≡◌, ◌||◌, [], ℕ, IfOk, List, false, length};
     ghost use Rattle.debugger.specs.Calls.{call_place};
     ghost use Rattle.debugger.specs.Stops.{IsLast};
+    ghost use Rattle.debugger.specs.Instructions.{WritesCode};
     ghost use Rattle.debugger.specs.Private.Listing.{ListsStops};
     ghost use Rattle.debugger.specs.Printing.Memory.{memory_text};
     ghost use Rattle.debugger.specs.Printing.Registers.{registers_text};
-    ghost use Rattle.debugger.specs.Text.{Printed, Says, SaysWhere, SaysWho, Watches, breakpoint_line, output_text, watch_line, where_text};
+    ghost use Rattle.debugger.specs.Text.{Printed, Says, SaysWhere, SaysWho, Watches, breakpoint_line, output_text, stack_text, watch_line, where_text};
     ghost use Rattle.debugger.specs.declared.stops.Stops.{Stops as TheStops};
     ghost use Rattle.debugger.specs.Session.{BackNexts, BackRuns, GoesTo, Obeys, Moves, Nexts, RunsOn, Sets, is_quit};
     ghost use Rattle.debugger.specs.Walk.{IsTrue_of_run, Shown};
@@ -361,7 +362,9 @@ impl<'a> Session<'a> {
     }
 
     /// Instructions.
-    fn code(&self, from: u16, count: u16) -> Result<Vec<u8>, AllocError> {
+    fn code(&self, from: u16, count: u16) -> Result<Vec<u8>, AllocError>
+        ensures { IfOk result (λ text. WritesCode self.now.labels self.now.history.point.state.machine from «count» text.items) }
+    {
         let snapshot = self.history.point().snapshot();
         let mut text = Vec::new(self.alloc);
         put_instructions(self.alloc, &self.labels, snapshot, from, count, &mut text)?;
@@ -381,15 +384,24 @@ impl<'a> Session<'a> {
         Ok(text)
     }
 
-    /// What is printed for the commands that show something else.
-    fn shown(&self, command: Command) -> Result<Vec<u8>, AllocError> {
+    /// The words on top of the stack.
+    fn stack(&self) -> Result<Vec<u8>, AllocError>
+        ensures { IfOk result (λ text. text.items ≡ stack_text self.now.labels self.now.history.point.state.machine.memory self.now.history.point.state.machine.cpu.sp) }
+    {
         let snapshot = self.history.point().snapshot();
         let mut text = Vec::new(self.alloc);
-        match command {
-            Command::Stack => put_stack(self.alloc, &self.labels, snapshot, &mut text)?,
-            Command::Files => put_files(self.alloc, snapshot.disk(), &mut text)?,
-            _ => text.extend_from_slice(HELP)?,
-        }
+        put_stack(self.alloc, &self.labels, snapshot, &mut text)?;
+        Ok(text)
+    }
+
+    /// The files of the disk.
+    fn files(&self) -> Result<Vec<u8>, AllocError> {
+        let mut text = Vec::new(self.alloc);
+        put_files(
+            self.alloc,
+            self.history.point().snapshot().disk(),
+            &mut text,
+        )?;
         Ok(text)
     }
 
@@ -416,10 +428,10 @@ impl<'a> Session<'a> {
             Command::Info => Ok(listed),
             Command::Quit => Ok(Vec::new(self.alloc)),
             Command::Disassemble(from, count) => self.code(from, count),
-            Command::Stack => self.shown(command),
+            Command::Stack => self.stack(),
             Command::Output => self.output(),
-            Command::Files => self.shown(command),
-            Command::Help => self.shown(command),
+            Command::Files => self.files(),
+            Command::Help => Ok(HELP.to_vec(self.alloc)?),
             Command::Step(_) => self.moved(told, printed),
             Command::Back(_) => self.moved(told, printed),
             Command::Turn(_) => self.moved(told, printed),

@@ -1,9 +1,13 @@
 //! What a session prints.
 
-ghost use Rattle.std.specs.Prelude.{◌≡◌, ◌==◌, ◌<◌, ◌++◌, ◌∷◌, [], ℕ, IfOk, List, OnOk, filter, map, not, option_map, true};
+ghost use Rattle.std.specs.Prelude.{◌≡◌, ◌==◌, ◌<◌, ◌++◌, ◌∷◌, [], ℕ, IfOk, List, OnOk, codes, filter, map, not, option_map, true};
 ghost use Rattle.hex.specs.Hex.{encode_upper};
+ghost use Rattle.std.specs.List.{flat_map};
+ghost use Rattle.z80_cpu.specs.State.{machine, up_by};
+ghost use Rattle.debugger.specs.Instructions.{Writes, WritesCode, WritesInstruction, byte_number, entry_at, instruction_line, read_at, size_of};
+ghost use Rattle.debugger.specs.Labelled.{label_after, labelled_address};
 ghost use Rattle.debugger.specs.Printing.Memory.{shown_character};
-ghost use Rattle.debugger.specs.Text.{labelled_address, breakpoint_line, breakpoint_lines, call_text, change_line, changer_text, condition_after, count_after, follows, label_after, listing_text, line_with, outcome_text, output_text, point_line, printed_line, stops_text, unchanged_line, values_text, watch_line, watched_line, watched_lines, where_text, who_text};
+ghost use Rattle.debugger.specs.Text.{WritesPoint, breakpoint_line, breakpoint_lines, call_text, change_line, changer_text, condition_after, count_after, follows, listing_text, line_with, outcome_text, output_text, point_line, printed_line, stack_line, stack_text, stops_text, unchanged_line, values_text, watch_line, watched_line, watched_lines, where_text, who_text};
 
 use crate::history::Outcome;
 use crate::labels::{Labels, put_label};
@@ -18,62 +22,88 @@ use cpm_image::MemoryImage;
 use cpm_run::{BDOS, BIOS, bios_entry, is_finished};
 use std::alloc::{AllocError, Global};
 use z80_cpu::{Cpu, Memory};
-use z80_table::decode;
+use z80_table::{DecodeFault, Instr, decode};
 
 /// The bytes of a name before its type.
 const NAME_BYTES: usize = 8;
 
-/// The words that `stack` shows.
-const STACK_WORDS: u16 = 8;
-
-/// The four bytes from an address on. After FFFFH comes address 0.
-fn four_bytes(memory: &Memory, address: u16) -> [u8; 4] {
-    [
+/// The instruction at an address, with the number of its bytes. After FFFFH comes address 0.
+fn read_at(memory: &Memory, address: u16) -> Result<(Instr, u8), DecodeFault>
+    ensures { result ≡ read_at memory.now address }
+{
+    decode(&[
         memory.get(address),
         memory.get(address.wrapping_add(1)),
         memory.get(address.wrapping_add(2)),
         memory.get(address.wrapping_add(3)),
-    ]
+    ])
 }
 
 /// The number of bytes of the instruction at an address; 1 if no documented instruction is there.
-fn instruction_size(memory: &Memory, address: u16) -> u16 {
-    match decode(&four_bytes(memory, address)) {
+fn instruction_size(memory: &Memory, address: u16) -> u16
+    ensures { result ≡ size_of (read_at memory.now address) }
+{
+    match read_at(memory, address) {
         Ok((_, size)) => u16::from(size),
         Err(_) => 1,
     }
 }
 
 /// The number of the entry of the BIOS at an address, from 0, the cold start, to 16; `None` if there is none.
-fn entry_at(address: u16) -> Option<u8> {
+fn entry_at(address: u16) -> Option<u8>
+    ensures { result ≡ entry_at address }
+{
     if is_finished(address) {
         return Some(u8::from(address != BIOS));
     }
     bios_entry(address)
 }
 
-/// The instruction at an address, as the disassembler writes it.
-fn instruction(
+/// A byte that begins no documented instruction, as DB has it. A number begins with a digit.
+fn put_undocumented(alloc: Global, byte: u8, text: &mut Vec<u8>) -> Result<(), AllocError>
+    ensures { OnOk result (text.new.items ≡ text.old.items ++ codes "DB " ++ byte_number byte) }
+{
+    text.extend_from_slice(b"DB ")?;
+    if byte >= 0xA0 {
+        text.push(b'0')?;
+    }
+    put_byte(alloc, byte, text)?;
+    text.extend_from_slice(b"H")
+}
+
+/// The instruction that was read at an address; the byte there if none was read.
+fn put_read(
+    alloc: Global,
+    byte: u8,
+    found: Result<(Instr, u8), DecodeFault>,
+    text: &mut Vec<u8>,
+) -> Result<(), AllocError>
+    ensures { OnOk result ((what : List ℕ) × Writes byte found what × (text.new.items ≡ text.old.items ++ what)) }
+{
+    match found {
+        Ok((instr, _)) => put_characters(format!(in alloc; "{instr}")?.as_bytes(), text),
+        Err(_) => put_undocumented(alloc, byte, text),
+    }
+}
+
+/// The system call at an address, with the number of its function or entry; or the instruction.
+fn put_instruction(
     alloc: Global,
     cpu: &Cpu,
     memory: &Memory,
     address: u16,
-) -> Result<String, AllocError> {
+    text: &mut Vec<u8>,
+) -> Result<(), AllocError>
+    ensures { OnOk result ((what : List ℕ) × WritesInstruction (machine cpu.now memory.now) address what × (text.new.items ≡ text.old.items ++ what)) }
+{
     if address == BDOS {
         let function = cpu.main.c;
-        return format!(in alloc; "BDOS {function}");
+        return text.extend_from_slice(format!(in alloc; "BDOS {function}")?.as_bytes());
     }
     if let Some(entry) = entry_at(address) {
-        return format!(in alloc; "BIOS {entry}");
+        return text.extend_from_slice(format!(in alloc; "BIOS {entry}")?.as_bytes());
     }
-    let bytes = four_bytes(memory, address);
-    match decode(&bytes) {
-        Ok((instr, _)) => format!(in alloc; "{instr}"),
-        Err(_) => {
-            let byte = bytes[0];
-            format!(in alloc; "DB {byte:02X}H")
-        }
-    }
+    put_read(alloc, memory.get(address), read_at(memory, address), text)
 }
 
 /// Appends a blank and a label with the distance from it, if there is one.
@@ -104,12 +134,17 @@ pub(crate) fn put_address(
     put_label_after(alloc, labels.find(address), text)
 }
 
-/// The end of the run, or the instruction at PC.
-fn what_is_at(alloc: Global, point: &Point<'_>) -> Result<String, AllocError> {
+/// Why the run has ended, or the instruction at PC.
+fn put_what(alloc: Global, point: &Point<'_>, text: &mut Vec<u8>) -> Result<(), AllocError>
+    ensures { OnOk result ((what : List ℕ) × WritesPoint point.now.end point.now.state.machine what × (text.new.items ≡ text.old.items ++ what)) }
+{
     let snapshot = point.snapshot();
     match point.end() {
-        Some(why) => format!(in alloc; "{why}"),
-        None => instruction(alloc, snapshot.cpu(), snapshot.memory(), snapshot.cpu().pc),
+        Some(why) => put_characters(format!(in alloc; "{why}")?.as_bytes(), text),
+        None => {
+            let cpu = snapshot.cpu();
+            put_instruction(alloc, cpu, snapshot.memory(), cpu.pc, text)
+        }
     }
 }
 
@@ -121,14 +156,14 @@ pub(crate) fn put_point(
     point: &Point<'_>,
     text: &mut Vec<u8>,
 ) -> Result<(), AllocError>
-    ensures { IfOk result (λ _. (what : List ℕ) × (text.new.items ≡ text.old.items ++ point_line labels.now turn point.now.state.machine.cpu.pc what)) }
+    ensures { OnOk result ((what : List ℕ) × WritesPoint point.now.end point.now.state.machine what
+        × (text.new.items ≡ text.old.items ++ point_line labels.now turn point.now.state.machine.cpu.pc what)) }
 {
     let pc = point.snapshot().cpu().pc;
     text.extend_from_slice(format!(in alloc; "turn {turn} at ")?.as_bytes())?;
     put_address(alloc, labels, pc, text)?;
     text.extend_from_slice(b": ")?;
-    let what = what_is_at(alloc, point)?;
-    text.extend_from_slice(what.as_bytes())?;
+    put_what(alloc, point, text)?;
     text.extend_from_slice(b"\n")
 }
 
@@ -434,7 +469,24 @@ pub(crate) fn put_output(alloc: Global, output: &[u8], text: &mut Vec<u8>) -> Re
     Ok(())
 }
 
-/// The lines of instructions: the address and its label, and the instruction.
+/// The line of an instruction: the address and its label, and the instruction.
+fn put_instruction_line(
+    alloc: Global,
+    labels: &Labels,
+    snapshot: &Snapshot<'_>,
+    address: u16,
+    text: &mut Vec<u8>,
+) -> Result<(), AllocError>
+    ensures { OnOk result ((what : List ℕ) × WritesInstruction snapshot.now.machine address what
+        × (text.new.items ≡ text.old.items ++ instruction_line labels.now address what)) }
+{
+    put_address(alloc, labels, address, text)?;
+    text.extend_from_slice(b": ")?;
+    put_instruction(alloc, snapshot.cpu(), snapshot.memory(), address, text)?;
+    text.extend_from_slice(b"\n")
+}
+
+/// The lines of instructions.
 pub(crate) fn put_instructions(
     alloc: Global,
     labels: &Labels,
@@ -442,33 +494,62 @@ pub(crate) fn put_instructions(
     from: u16,
     count: u16,
     text: &mut Vec<u8>,
-) -> Result<(), AllocError> {
+) -> Result<(), AllocError>
+    ensures { OnOk result ((lines : List ℕ) × WritesCode labels.now snapshot.now.machine from count lines × (text.new.items ≡ text.old.items ++ lines)) }
+{
     let mut address = from;
     for _ in 0..count {
-        put_address(alloc, labels, address, text)?;
-        text.extend_from_slice(b": ")?;
-        let line = instruction(alloc, snapshot.cpu(), snapshot.memory(), address)?;
-        text.extend_from_slice(line.as_bytes())?;
-        text.push(b'\n')?;
+        put_instruction_line(alloc, labels, snapshot, address, text)?;
         address = address.wrapping_add(instruction_size(snapshot.memory(), address));
     }
     Ok(())
 }
 
-/// The lines of the eight words on top of the stack: SP, the word, and the word as an address with its label.
+/// The line of a word on the stack: its address, and the word as an address with its label.
+fn put_stack_line(
+    alloc: Global,
+    labels: &Labels,
+    memory: &Memory,
+    address: u16,
+    text: &mut Vec<u8>,
+) -> Result<(), AllocError>
+    ensures { OnOk result (text.new.items ≡ text.old.items ++ stack_line labels.now memory.now address) }
+{
+    put_word(alloc, text, address)?;
+    text.extend_from_slice(b": ")?;
+    put_address(alloc, labels, memory.word(address), text)?;
+    text.extend_from_slice(b"\n")
+}
+
+/// The lines of the words that are so far from SP.
+fn put_words(
+    alloc: Global,
+    labels: &Labels,
+    memory: &Memory,
+    sp: u16,
+    offsets: &[u16],
+    text: &mut Vec<u8>,
+) -> Result<(), AllocError>
+    ensures { OnOk result (text.new.items ≡ text.old.items ++ flat_map (λ offset. stack_line labels.now memory.now (up_by offset sp)) offsets.now) }
+{
+    for offset in offsets {
+        put_stack_line(alloc, labels, memory, sp.wrapping_add(*offset), text)?;
+    }
+    Ok(())
+}
+
+/// The lines of the eight words on top of the stack.
 pub(crate) fn put_stack(
     alloc: Global,
     labels: &Labels,
     snapshot: &Snapshot<'_>,
     text: &mut Vec<u8>,
-) -> Result<(), AllocError> {
-    for number in 0..STACK_WORDS {
-        let address = snapshot.cpu().sp.wrapping_add(number.wrapping_mul(2));
-        text.extend_from_slice(format!(in alloc; "{address:04X}: ")?.as_bytes())?;
-        put_address(alloc, labels, snapshot.memory().word(address), text)?;
-        text.push(b'\n')?;
-    }
-    Ok(())
+) -> Result<(), AllocError>
+    ensures { OnOk result (text.new.items ≡ text.old.items ++ stack_text labels.now snapshot.now.machine.memory snapshot.now.machine.cpu.sp) }
+{
+    let sp = snapshot.cpu().sp;
+    let offsets = [0, 2, 4, 6, 8, 10, 12, 14];
+    put_words(alloc, labels, snapshot.memory(), sp, &offsets, text)
 }
 
 /// Bytes of a name, without the blanks at their end.

@@ -1,5 +1,5 @@
 -- What a history keeps.
-use Rattle.std.specs.Prelude.{◌≡◌, ℕ, List, All, None}
+use Rattle.std.specs.Prelude.{◌≡◌, ◌≤◌, ℕ, List, All, None, length}
 use Rattle.debugger.specs.declared.kept.Kept.{Kept}
 use Rattle.debugger.specs.Walk.{IsAfter, Point, MemoryState}
 
@@ -10,4 +10,5 @@ IsKept start kept = IsAfter start kept.turn (record { state = kept.snapshot; end
 pub record IsHistory (start : MemoryState) (kept : List Kept) (turn : ℕ) (now : Point) : Type 0 where
   pub first : start.turns ≡ 0
   pub kept_are : All (IsKept start) kept
+  pub few : length kept ≤ 64
   pub now_is : IsAfter start turn now

@@ -1,0 +1,61 @@
+-- What is printed of an instruction.
+use Rattle.std.specs.Prelude.{◌≡◌, ◌+◌, ◌==◌, ℕ, Bool, false, true, List, [], ◌∷◌, ◌++◌, Option, Some, None, Result, Ok, Err, codes, decimal, if◌then◌else◌, map, nat_le}
+use Rattle.cpm_run.specs.Turns.{bdos, bios, bios_entry, is_finished}
+use Rattle.hex.specs.Hex.{encode_upper}
+use Rattle.z80_cpu.specs.State.{Machine, byte_at, up_by}
+use Rattle.z80_instr.specs.declared.Instr.{Instr}
+use Rattle.z80_table.specs.Reading.{read}
+use Rattle.z80_table.specs.declared.DecodeFault.{DecodeFault}
+use Rattle.debugger.specs.Labelled.{Known, labelled_address}
+use Rattle.debugger.specs.Printing.Memory.{shown_character}
+
+-- the instruction at an address, with the number of its bytes; after FFFFH comes address 0
+abbrev pub read_at : List ℕ → ℕ → Result (Instr × ℕ) DecodeFault
+read_at memory address = read (byte_at address memory ∷ byte_at (up_by 1 address) memory ∷ byte_at (up_by 2 address) memory ∷ byte_at (up_by 3 address) memory ∷ [])
+
+-- the number of bytes of an instruction; 1 if no documented one was read
+abbrev pub size_of : Result (Instr × ℕ) DecodeFault → ℕ
+size_of (Ok found) = found.1
+size_of (Err why) = 1
+
+-- the number of the entry of the BIOS at an address, from 0, the cold start, to 16
+abbrev pub entry_at : ℕ → Option ℕ
+entry_at address = if is_finished address then Some (if address == bios then 0 else 1) else bios_entry address
+
+-- a byte as a hexadecimal number of the assembler, which begins with a digit
+abbrev pub byte_number : ℕ → List ℕ
+byte_number byte = (if nat_le 0xA0 byte then codes "0" else []) ++ encode_upper (byte ∷ []) ++ codes "H"
+
+-- words without a control byte
+abbrev pub AreShown : List ℕ → Type 0
+AreShown what = (words : List ℕ) × (what ≡ map shown_character words)
+
+-- What is printed of an instruction that was read, or of the byte at which none was read. In which words an instruction is printed is not
+-- said here.
+abbrev pub Writes : ℕ → Result (Instr × ℕ) DecodeFault → List ℕ → Type 0
+Writes byte (Ok found) what = AreShown what
+Writes byte (Err why) what = what ≡ codes "DB " ++ byte_number byte
+
+-- the same, unless an entry of the BIOS is at the address
+abbrev pub WritesEntry : Option ℕ → ℕ → Result (Instr × ℕ) DecodeFault → List ℕ → Type 0
+WritesEntry (Some entry) byte found what = what ≡ codes "BIOS " ++ decimal entry
+WritesEntry None byte found what = Writes byte found what
+
+-- the same, unless the entry of the BDOS is at the address
+abbrev pub WritesCall : Bool → Machine → ℕ → List ℕ → Type 0
+WritesCall true machine address what = what ≡ codes "BDOS " ++ decimal machine.cpu.main.c
+WritesCall false machine address what = WritesEntry (entry_at address) (byte_at address machine.memory) (read_at machine.memory address) what
+
+-- What is printed of an address: the system call there, with the number of its function or entry; or the instruction.
+abbrev pub WritesInstruction : Machine → ℕ → List ℕ → Type 0
+WritesInstruction machine address what = WritesCall (address == bdos) machine address what
+
+-- the line of an address: with its label, and what is there
+abbrev pub instruction_line : Known → ℕ → List ℕ → List ℕ
+instruction_line known address what = labelled_address known address ++ codes ": " ++ what ++ codes "\n"
+
+-- the lines of this many instructions from an address on; after FFFFH comes address 0
+pub data WritesCode (known : Known) (machine : Machine) : ℕ → ℕ → List ℕ → Type 0 where
+  none : (address : ℕ) → WritesCode known machine address 0 []
+  more : (address count : ℕ) (what rest : List ℕ) → WritesInstruction machine address what → WritesCode known machine (up_by (size_of (read_at machine.memory address)) address) count rest
+      → WritesCode known machine address (count + 1) (instruction_line known address what ++ rest)
