@@ -10,17 +10,17 @@ use Rattle.debugger.specs.Labelled.{Known, labelled_address}
 use Rattle.debugger.specs.Printing.Memory.{shown_character}
 
 -- the instruction at an address, with the number of its bytes; after FFFFH comes address 0
-abbrev pub read_at : List ℕ → ℕ → Result (Instr × ℕ) DecodeFault
-read_at memory address = read (byte_at address memory ∷ byte_at (up_by 1 address) memory ∷ byte_at (up_by 2 address) memory ∷ byte_at (up_by 3 address) memory ∷ [])
+abbrev pub decoded_at : List ℕ → ℕ → Result (Instr × ℕ) DecodeFault
+decoded_at memory address = read (byte_at address memory ∷ byte_at (up_by 1 address) memory ∷ byte_at (up_by 2 address) memory ∷ byte_at (up_by 3 address) memory ∷ [])
 
 -- the number of bytes of an instruction; 1 if no documented one was read
-abbrev pub size_of : Result (Instr × ℕ) DecodeFault → ℕ
-size_of (Ok found) = found.1
-size_of (Err why) = 1
+abbrev pub instruction_size : Result (Instr × ℕ) DecodeFault → ℕ
+instruction_size (Ok found) = found.1
+instruction_size (Err why) = 1
 
 -- the number of the entry of the BIOS at an address, from 0, the cold start, to 16
-abbrev pub entry_at : ℕ → Option ℕ
-entry_at address = if is_finished address then Some (if address == bios then 0 else 1) else bios_entry address
+abbrev pub bios_entry_at : ℕ → Option ℕ
+bios_entry_at address = if is_finished address then Some (if address == bios then 0 else 1) else bios_entry address
 
 -- a byte as a hexadecimal number of the assembler, which begins with a digit
 abbrev pub byte_number : ℕ → List ℕ
@@ -32,19 +32,19 @@ AreShown what = (words : List ℕ) × (what ≡ map shown_character words)
 
 -- What is printed of an instruction that was read, or of the byte at which none was read. In which words an instruction is printed is not
 -- said here.
-abbrev pub Writes : ℕ → Result (Instr × ℕ) DecodeFault → List ℕ → Type 0
-Writes byte (Ok found) what = AreShown what
-Writes byte (Err why) what = what ≡ codes "DB " ++ byte_number byte
+abbrev pub WritesDecoded : ℕ → Result (Instr × ℕ) DecodeFault → List ℕ → Type 0
+WritesDecoded byte (Ok found) what = AreShown what
+WritesDecoded byte (Err why) what = what ≡ codes "DB " ++ byte_number byte
 
 -- the same, unless an entry of the BIOS is at the address
 abbrev pub WritesEntry : Option ℕ → ℕ → Result (Instr × ℕ) DecodeFault → List ℕ → Type 0
 WritesEntry (Some entry) byte found what = what ≡ codes "BIOS " ++ decimal entry
-WritesEntry None byte found what = Writes byte found what
+WritesEntry None byte found what = WritesDecoded byte found what
 
 -- the same, unless the entry of the BDOS is at the address
 abbrev pub WritesCall : Bool → Machine → ℕ → List ℕ → Type 0
 WritesCall true machine address what = what ≡ codes "BDOS " ++ decimal machine.cpu.main.c
-WritesCall false machine address what = WritesEntry (entry_at address) (byte_at address machine.memory) (read_at machine.memory address) what
+WritesCall false machine address what = WritesEntry (bios_entry_at address) (byte_at address machine.memory) (decoded_at machine.memory address) what
 
 -- What is printed of an address: the system call there, with the number of its function or entry; or the instruction.
 abbrev pub WritesInstruction : Machine → ℕ → List ℕ → Type 0
@@ -57,5 +57,5 @@ instruction_line known address what = labelled_address known address ++ codes ":
 -- the lines of this many instructions from an address on; after FFFFH comes address 0
 pub data WritesCode (known : Known) (machine : Machine) : ℕ → ℕ → List ℕ → Type 0 where
   none : (address : ℕ) → WritesCode known machine address 0 []
-  more : (address count : ℕ) (what rest : List ℕ) → WritesInstruction machine address what → WritesCode known machine (up_by (size_of (read_at machine.memory address)) address) count rest
+  more : (address count : ℕ) (what rest : List ℕ) → WritesInstruction machine address what → WritesCode known machine (up_by (instruction_size (decoded_at machine.memory address)) address) count rest
       → WritesCode known machine address (count + 1) (instruction_line known address what ++ rest)

@@ -166,8 +166,8 @@ SaysWhere told old new known text =
 -- ---- the stack
 
 -- SP, or an address above it, and the word there as an address with its label
-abbrev pub stack_line : Known → List ℕ → ℕ → List ℕ
-stack_line known memory sp = word_text sp ++ codes ": " ++ labelled_address known (word_at sp memory) ++ codes "\n"
+abbrev pub stack_word_line : Known → List ℕ → ℕ → List ℕ
+stack_word_line known memory sp = word_text sp ++ codes ": " ++ labelled_address known (word_at sp memory) ++ codes "\n"
 
 -- how far the eight words on top of the stack are from SP
 abbrev pub stack_offsets : List ℕ
@@ -175,7 +175,7 @@ stack_offsets = 0 ∷ 2 ∷ 4 ∷ 6 ∷ 8 ∷ 10 ∷ 12 ∷ 14 ∷ []
 
 -- their lines
 abbrev pub stack_text : Known → List ℕ → ℕ → List ℕ
-stack_text known memory sp = flat_map (λ offset. stack_line known memory (up_by offset sp)) stack_offsets
+stack_text known memory sp = flat_map (λ offset. stack_word_line known memory (up_by offset sp)) stack_offsets
 
 -- ---- what a command prints, given the breakpoints and watched bytes before it, how it ended, and what is shown before and after it. Of
 -- `files` this says nothing.

@@ -4,10 +4,10 @@ ghost use Rattle.std.specs.Prelude.{◌≡◌, ◌==◌, ◌<◌, ◌++◌, ◌�
 ghost use Rattle.hex.specs.Hex.{encode_upper};
 ghost use Rattle.std.specs.List.{flat_map};
 ghost use Rattle.z80_cpu.specs.State.{machine, up_by};
-ghost use Rattle.debugger.specs.Instructions.{Writes, WritesCode, WritesInstruction, byte_number, entry_at, instruction_line, read_at, size_of};
+ghost use Rattle.debugger.specs.Instructions.{WritesDecoded, WritesCode, WritesInstruction, byte_number, bios_entry_at, instruction_line, decoded_at, instruction_size};
 ghost use Rattle.debugger.specs.Labelled.{label_after, labelled_address};
 ghost use Rattle.debugger.specs.Printing.Memory.{shown_character};
-ghost use Rattle.debugger.specs.Text.{WritesPoint, breakpoint_line, breakpoint_lines, call_text, change_line, changer_text, condition_after, count_after, follows, listing_text, line_with, outcome_text, output_text, point_line, printed_line, stack_line, stack_text, stops_text, unchanged_line, values_text, watch_line, watched_line, watched_lines, where_text, who_text};
+ghost use Rattle.debugger.specs.Text.{WritesPoint, breakpoint_line, breakpoint_lines, call_text, change_line, changer_text, condition_after, count_after, follows, listing_text, line_with, outcome_text, output_text, point_line, printed_line, stack_word_line, stack_text, stops_text, unchanged_line, values_text, watch_line, watched_line, watched_lines, where_text, who_text};
 
 use crate::history::Outcome;
 use crate::labels::{Labels, put_label};
@@ -28,8 +28,8 @@ use z80_table::{DecodeFault, Instr, decode};
 const NAME_BYTES: usize = 8;
 
 /// The instruction at an address, with the number of its bytes. After FFFFH comes address 0.
-fn read_at(memory: &Memory, address: u16) -> Result<(Instr, u8), DecodeFault>
-    ensures { result ≡ read_at memory.now address }
+fn decoded_at(memory: &Memory, address: u16) -> Result<(Instr, u8), DecodeFault>
+    ensures { result ≡ decoded_at memory.now address }
 {
     decode(&[
         memory.get(address),
@@ -41,17 +41,17 @@ fn read_at(memory: &Memory, address: u16) -> Result<(Instr, u8), DecodeFault>
 
 /// The number of bytes of the instruction at an address; 1 if no documented instruction is there.
 fn instruction_size(memory: &Memory, address: u16) -> u16
-    ensures { result ≡ size_of (read_at memory.now address) }
+    ensures { result ≡ instruction_size (decoded_at memory.now address) }
 {
-    match read_at(memory, address) {
+    match decoded_at(memory, address) {
         Ok((_, size)) => u16::from(size),
         Err(_) => 1,
     }
 }
 
 /// The number of the entry of the BIOS at an address, from 0, the cold start, to 16; `None` if there is none.
-fn entry_at(address: u16) -> Option<u8>
-    ensures { result ≡ entry_at address }
+fn bios_entry_at(address: u16) -> Option<u8>
+    ensures { result ≡ bios_entry_at address }
 {
     if is_finished(address) {
         return Some(u8::from(address != BIOS));
@@ -72,13 +72,13 @@ fn put_undocumented(alloc: Global, byte: u8, text: &mut Vec<u8>) -> Result<(), A
 }
 
 /// The instruction that was read at an address; the byte there if none was read.
-fn put_read(
+fn put_decoded(
     alloc: Global,
     byte: u8,
     found: Result<(Instr, u8), DecodeFault>,
     text: &mut Vec<u8>,
 ) -> Result<(), AllocError>
-    ensures { OnOk result ((what : List ℕ) × Writes byte found what × (text.new.items ≡ text.old.items ++ what)) }
+    ensures { OnOk result ((what : List ℕ) × WritesDecoded byte found what × (text.new.items ≡ text.old.items ++ what)) }
 {
     match found {
         Ok((instr, _)) => put_characters(format!(in alloc; "{instr}")?.as_bytes(), text),
@@ -100,10 +100,15 @@ fn put_instruction(
         let function = cpu.main.c;
         return text.extend_from_slice(format!(in alloc; "BDOS {function}")?.as_bytes());
     }
-    if let Some(entry) = entry_at(address) {
+    if let Some(entry) = bios_entry_at(address) {
         return text.extend_from_slice(format!(in alloc; "BIOS {entry}")?.as_bytes());
     }
-    put_read(alloc, memory.get(address), read_at(memory, address), text)
+    put_decoded(
+        alloc,
+        memory.get(address),
+        decoded_at(memory, address),
+        text,
+    )
 }
 
 /// Appends a blank and a label with the distance from it, if there is one.
@@ -513,7 +518,7 @@ fn put_stack_line(
     address: u16,
     text: &mut Vec<u8>,
 ) -> Result<(), AllocError>
-    ensures { OnOk result (text.new.items ≡ text.old.items ++ stack_line labels.now memory.now address) }
+    ensures { OnOk result (text.new.items ≡ text.old.items ++ stack_word_line labels.now memory.now address) }
 {
     put_word(alloc, text, address)?;
     text.extend_from_slice(b": ")?;
@@ -530,7 +535,7 @@ fn put_words(
     offsets: &[u16],
     text: &mut Vec<u8>,
 ) -> Result<(), AllocError>
-    ensures { OnOk result (text.new.items ≡ text.old.items ++ flat_map (λ offset. stack_line labels.now memory.now (up_by offset sp)) offsets.now) }
+    ensures { OnOk result (text.new.items ≡ text.old.items ++ flat_map (λ offset. stack_word_line labels.now memory.now (up_by offset sp)) offsets.now) }
 {
     for offset in offsets {
         put_stack_line(alloc, labels, memory, sp.wrapping_add(*offset), text)?;

@@ -356,7 +356,8 @@ IMG is locked from before it is read until the end of the run, and replaced as
 --regs prints the registers and the stack on standard error when the run has
 ended. --last prints its last COUNT steps there, each as a line of the trace, if
 it is stopped, or comes to its end from outside the program's bytes. (A program
-whose last instruction is JP 5 counts as such a one, and is right.)
+that jumps to 5 for its last call, by JP 5 with another function than 0 in C,
+counts as such a one, and is right.)
 
 --trace writes such a line for each of the first 1,000,000 steps to TRC: its
 number, the address, the label, the instruction's bytes and text, and the

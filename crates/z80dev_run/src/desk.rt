@@ -1,10 +1,12 @@
 //! Somebody at standard input and standard output.
 
-ghost use Rattle.std.specs.Prelude.{◌≡◌, ◌<◌, ◌≤◌, ◌≢◌, ◌++◌, ℕ, List, EachIndex, false, if◌then◌else◌, length, slice_index};
+ghost use Rattle.std.specs.Prelude.{◌≡◌, ◌<◌, ◌≤◌, ◌≢◌, ◌++◌, ℕ, List, EachIndex, Ok, false, if◌then◌else◌, length, slice_index, true};
 ghost use Rattle.cpm_run.specs.Seat.{Listens};
 ghost use Rattle.cpm_run.specs.declared.station.Came.TheVariants as came;
+ghost use Rattle.cpm_run.specs.declared.station.Patience.TheVariants as how;
 ghost use Rattle.screen_codes.specs.declared.codes.Pending.TheVariants.{Nothing};
 ghost use Rattle.z80dev_run.specs.Desk.{as_keys, has_left, leaves_by, line_key, seat_of};
+ghost use Rattle.z80dev_run.specs.declared.desk.Keys.TheVariants as keys;
 ghost use Rattle.z80dev_run.specs.declared.desk.TheConstants.{MOST_LISTENS};
 
 use cpm_run::{Came, Patience, Station, StationFault};
@@ -78,8 +80,9 @@ pub struct Desk<I: Input, S: Sink> {
 
 impl<I: Input, S: Sink> Model for Desk<I, S> {
     ghost use Rattle.std.specs.Io.KnownBytes.{IsAtEnd};
-    ghost use Rattle.std.specs.Prelude.{◌≡◌, ◌≤◌, false};
+    ghost use Rattle.std.specs.Prelude.{◌≡◌, ◌≢◌, ◌≤◌, false};
     ghost use Rattle.z80dev_run.specs.Desk.{DeskState};
+    ghost use Rattle.z80dev_run.specs.declared.desk.Keys.TheVariants.{Raw};
     ghost use Rattle.z80dev_run.specs.declared.desk.InputState.TheVariants.{Open, Ended};
     ghost use Rattle.z80dev_run.specs.declared.desk.TheConstants.{MOST_LISTENS};
 
@@ -87,7 +90,7 @@ impl<I: Input, S: Sink> Model for Desk<I, S> {
 
     ghost view = { λ d. record { input = d.input; output = d.output; screen = d.screen; keys = d.keys; is_leaving = d.is_leaving } };
 
-    ghost invariant = { λ d. (d.state ≡ Open → I.failed d.input ≡ false) × (d.state ≡ Ended → IsAtEnd (I.remaining d.input)) × (I.reads d.input ≡ d.reads) × (d.reads ≤ MOST_LISTENS) };
+    ghost invariant = { λ d. (d.state ≡ Open → I.failed d.input ≡ false) × (d.state ≡ Ended → IsAtEnd (I.remaining d.input)) × (d.keys ≡ Raw → d.state ≢ Ended) × (I.reads d.input ≡ d.reads) × (d.reads ≤ MOST_LISTENS) };
 }
 
 /// Whether the key Ctrl-\ is pressed twice, given whether it was the last key before these.
@@ -158,7 +161,9 @@ impl<I: Input, S: Sink> Desk<I, S> {
     /// Whether the keyboard is to be looked at now. A look may last until a line comes if keys come by lines. So then nobody looks for a person
     /// who wants to leave, which lines cannot say, and if the program asks for keys, it has to be idle, or to have been busy for long.
     fn is_due(&mut self, turns: u64, patience: Patience) -> bool
-        ensures { self.new ≡ self.old }
+        ensures same { self.new ≡ self.old }
+        ensures waits { patience ≡ how.Wait → result ≡ true }
+        ensures lines { patience ≡ how.Glance → self.old.keys ≡ keys.Lines → result ≡ false }
     {
         match patience {
             Patience::Wait => return true,
@@ -201,7 +206,8 @@ impl<I: Input, S: Sink> Desk<I, S> {
     /// Reads standard input once.
     fn look(&mut self, buffer: &mut [u8]) -> Result<Came, StationFault>
         requires room { 0 < length buffer.old }
-        ensures { Listens (seat_of self.old.screen.codes self.old.screen.pending self.old.keys self.old.is_leaving (I.remaining self.old.input) (S.stream self.old.output).bytes) (seat_of self.new.screen.codes self.new.screen.pending self.new.keys self.new.is_leaving (I.remaining self.new.input) (S.stream self.new.output).bytes) result buffer.new }
+        ensures raw { self.old.keys ≡ keys.Raw → result ≢ Ok came.End }
+        ensures listens { Listens (seat_of self.old.screen.codes self.old.screen.pending self.old.keys self.old.is_leaving (I.remaining self.old.input) (S.stream self.old.output).bytes) (seat_of self.new.screen.codes self.new.screen.pending self.new.keys self.new.is_leaving (I.remaining self.new.input) (S.stream self.new.output).bytes) result buffer.new }
     {
         match self.state {
             InputState::Ended => return Ok(Came::End),

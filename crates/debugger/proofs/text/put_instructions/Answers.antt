@@ -1,6 +1,6 @@
 use Rattle.std.proofs.Common.{◌≡◌, ◌∙◌, ◌+◌, ◌-◌, ◌++◌, [], ap, append-nil, append_assoc, arith, subst, sym}
 use Rattle.z80_cpu.specs.State.{up_by}
-use Rattle.debugger.specs.Instructions.{WritesCode, instruction_line, read_at, size_of}
+use Rattle.debugger.specs.Instructions.{WritesCode, instruction_line, decoded_at, instruction_size}
 use Rattle.debugger.specs.Instructions.WritesCode.{none}
 use Rattle.debugger.proofs.Coding.{WroteSome, wrote_more}
 use Rattle.debugger.proofs.text.put_instructions.Goals as goal
@@ -16,7 +16,7 @@ loop-preserved c =
     let more = instruction_line known address line.0 in
     let left = c.args.count - (c.loop.counter + 1) in
     let one : c.args.count - c.loop.counter ≡ left + 1 = omega (arith, test) in
-    let size = c.instruction_size-address.ensures ∙ ap (λ bytes. size_of (read_at bytes address)) c.memory.ensures in
+    let size = c.instruction_size-address.ensures ∙ ap (λ bytes. instruction_size (decoded_at bytes address)) c.memory.ensures in
     let wrote = wrote_more known m c.args.from c.args.count address left before.1.0 line.0 (subst (λ n. WroteSome known m c.args.from c.args.count address n before.1.0) one before.1.2) line.1 in (
       omega (arith, test),
       (
