@@ -1,5 +1,5 @@
 -- How calls end.
-use Rattle.std.specs.Prelude.{◌≡◌, ℕ, List, Result, Ok, Err, ⊤}
+use Rattle.std.specs.Prelude.{◌≡◌, ℕ, List, ◌++◌, Result, Ok, Err, codes, decimal, ⊤}
 use Rattle.cpm_directory.specs.declared.fault.DiskFault.{DiskFault}
 use Rattle.cpm_directory.specs.declared.fault.DiskFault.TheVariants as fault
 use Rattle.cpm_fcb.specs.declared.stop.Stop.{Stop}
@@ -11,6 +11,17 @@ stop_of fault.ReadOnly = stop.FileReadOnly
 stop_of fault.Fault = stop.DiskFault
 stop_of fault.Failed = stop.DiskFault
 stop_of _ = stop.BadFcb
+
+-- the reason in words
+abbrev pub stop_text : Stop → List ℕ
+stop_text (stop.UnsupportedFunction n) = codes "there is no function " ++ decimal n
+stop_text stop.FileReadOnly = codes "the file is read-only"
+stop_text stop.BadFcb = codes "the file control block is bad"
+stop_text stop.DiskFault = codes "the disk failed"
+stop_text stop.EndOfInput = codes "no input is left"
+stop_text stop.UnknownDrive = codes "there is no such drive"
+stop_text stop.ConsoleFault = codes "the console failed"
+stop_text (stop.UnsupportedBios n) = codes "there is no BIOS entry " ++ decimal n
 
 -- the first stop, if there is one, and otherwise the result of the second
 abbrev pub unless_stopped : {A : Type 0} → Result ⊤ Stop → Result A Stop → Result A Stop

@@ -4,27 +4,40 @@ ghost use Rattle.std.specs.Prelude.{◌≡◌};
 ghost use Rattle.cpm_fcb.specs.Stops.{stop_of};
 
 use cpm_disk::DiskFault;
-use thiserror::Error;
+use std::fmt;
 
 /// Why a call of the BDOS or the BIOS stops the run instead of answering.
-#[derive(Clone, Copy, Debug, PartialEq, Eq, Error)]
+#[derive(Clone, Copy, Debug, PartialEq, Eq)]
 pub enum Stop {
-    #[error("there is no function {0}")]
     UnsupportedFunction(u8),
-    #[error("the file is read-only")]
     FileReadOnly,
-    #[error("the file control block is bad")]
     BadFcb,
-    #[error("the disk failed")]
     DiskFault,
-    #[error("no input is left")]
     EndOfInput,
-    #[error("there is no such drive")]
     UnknownDrive,
-    #[error("the console failed")]
     ConsoleFault,
-    #[error("there is no BIOS entry {0}")]
     UnsupportedBios(u8),
+}
+
+/// The reason in words, as a person reads it. It is not derived, since a derived text has no contract.
+impl fmt::Display for Stop {
+    ghost use Rattle.std.specs.Prelude.{Some};
+    ghost use Rattle.cpm_fcb.specs.Stops.{stop_text};
+
+    ghost output = { λ stop. Some (stop_text stop) };
+
+    fn fmt<W: fmt::Write>(&self, f: &mut fmt::Formatter<W>) -> fmt::Result {
+        match self {
+            Stop::UnsupportedFunction(number) => write!(f, "there is no function {number}"),
+            Stop::FileReadOnly => f.write_str("the file is read-only"),
+            Stop::BadFcb => f.write_str("the file control block is bad"),
+            Stop::DiskFault => f.write_str("the disk failed"),
+            Stop::EndOfInput => f.write_str("no input is left"),
+            Stop::UnknownDrive => f.write_str("there is no such drive"),
+            Stop::ConsoleFault => f.write_str("the console failed"),
+            Stop::UnsupportedBios(number) => write!(f, "there is no BIOS entry {number}"),
+        }
+    }
 }
 
 /// The stop for a fault of the disk for which a call has no answer.

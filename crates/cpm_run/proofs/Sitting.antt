@@ -135,7 +135,7 @@ none_before n arrivals empty = λ k one here. absurd (let nothing : ◌≡◌ {A
 
 -- two calls that make no step
 pub still : {S : Type 0} (old mid new : Playing S) → IsStill old mid → IsStill mid new → IsStill old new
-still old mid new first then = record { cpu = then.cpu ∙ first.cpu; turns = then.turns ∙ first.turns }
+still old mid new first then = record { cpu = then.cpu ∙ first.cpu; turns = then.turns ∙ first.turns; looked = then.looked ∙ first.looked }
 
 -- the same step is still to be made
 pub between_kept : {S : Type 0} (limit : ℕ) (p q : Playing S) → q.cpu ≡ p.cpu → q.turns ≡ p.turns → IsBetween limit p → IsBetween limit q

@@ -1,5 +1,5 @@
 -- How a run of a program ends.
-use Rattle.std.specs.Prelude.{◌≡◌, ◌<◌, ◌≤◌, ◌+◌, ◌⊎◌, ℕ, true, false, List, Some, Ok, Err}
+use Rattle.std.specs.Prelude.{◌≡◌, ◌<◌, ◌≤◌, ◌+◌, ◌⊎◌, ℕ, true, false, List, Some, Ok, Err, codes}
 use Rattle.z80_cpu.specs.State.{machine}
 use Rattle.z80_cpu.specs.declared.registers.Cpu.{Cpu}
 use Rattle.cpm_console.specs.Dialog.{Dialog}
@@ -9,6 +9,7 @@ use Rattle.cpm_run.specs.declared.fault.StartFault.{StartFault}
 use Rattle.cpm_run.specs.declared.fault.StartFault.TheVariants as fault
 use Rattle.cpm_run.specs.Start.{IsStart}
 use Rattle.cpm_bdos.specs.System.{new_system}
+use Rattle.cpm_fcb.specs.Stops.{stop_text}
 use Rattle.cpm_run.specs.declared.ending.Why.{Why}
 use Rattle.cpm_run.specs.declared.ending.Why.TheVariants as why
 use Rattle.cpm_run.specs.Turns.{Goes, IsTurn, RunState, is_finished}
@@ -21,6 +22,17 @@ TurnsEnd {S} {C} sectors faults dialog limit old end turns new =
     ⊎ ((Goes sectors faults dialog turns old new × (turns ≡ limit) × (is_finished new.machine.cpu.pc ≡ false) × (end ≡ why.TurnLimit))
     ⊎ ((before : ℕ) × (last : RunState S C) × (turns ≡ before + 1) × (before < limit) × Goes sectors faults dialog before old last
     × (is_finished last.machine.cpu.pc ≡ false) × IsTurn sectors faults dialog last (Some end) new))
+
+-- the reason for the end of a run, in words
+abbrev pub why_text : Why → List ℕ
+why_text why.Finished = codes "the program finished"
+why_text why.Halted = codes "the program halted"
+why_text why.Undocumented = codes "no documented instruction"
+why_text why.TurnLimit = codes "the limit of turns was reached"
+why_text (why.Stopped stop) = stop_text stop
+why_text why.ComTooLong = codes "the program is too long"
+why_text why.TailTooLong = codes "the words are too long"
+why_text why.NoMemory = codes "out of memory"
 
 -- why a run ends whose program cannot be started
 abbrev pub unstarted : StartFault → Why

@@ -8,35 +8,48 @@ use cpm_bdos::Stop;
 use cpm_console::Console;
 use cpm_disk::Disk;
 use cpm_image::Sectors;
-use thiserror::Error;
+use std::fmt;
 
 /// Why a run ended.
-#[derive(Clone, Copy, Debug, PartialEq, Eq, Error)]
+#[derive(Clone, Copy, Debug, PartialEq, Eq)]
 pub enum Why {
     /// The program reached the cold or the warm start of the BIOS, or a system call asked for a warm boot.
-    #[error("the program finished")]
     Finished,
     /// HALT is at PC.
-    #[error("the program halted")]
     Halted,
     /// No documented instruction is at PC.
-    #[error("no documented instruction")]
     Undocumented,
     /// The allowed number of steps was made.
-    #[error("the limit of turns was reached")]
     TurnLimit,
     /// A system call stopped the run.
-    #[error("{0}")]
     Stopped(Stop),
     /// The program has more than 64,512 bytes.
-    #[error("the program is too long")]
     ComTooLong,
     /// The command tail, the words with a space before each, has more than 127 bytes.
-    #[error("the words are too long")]
     TailTooLong,
     /// Memory ran out.
-    #[error("out of memory")]
     NoMemory,
+}
+
+/// The reason in words, as a person reads it. It is not derived, since a derived text has no contract.
+impl fmt::Display for Why {
+    ghost use Rattle.std.specs.Prelude.{Some};
+    ghost use Rattle.cpm_run.specs.Run.{why_text};
+
+    ghost output = { λ why. Some (why_text why) };
+
+    fn fmt<W: fmt::Write>(&self, f: &mut fmt::Formatter<W>) -> fmt::Result {
+        match self {
+            Why::Finished => f.write_str("the program finished"),
+            Why::Halted => f.write_str("the program halted"),
+            Why::Undocumented => f.write_str("no documented instruction"),
+            Why::TurnLimit => f.write_str("the limit of turns was reached"),
+            Why::Stopped(stop) => write!(f, "{stop}"),
+            Why::ComTooLong => f.write_str("the program is too long"),
+            Why::TailTooLong => f.write_str("the words are too long"),
+            Why::NoMemory => f.write_str("out of memory"),
+        }
+    }
 }
 
 /// Why a run ends whose program cannot be started.

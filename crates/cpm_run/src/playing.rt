@@ -57,7 +57,9 @@ impl<S: Sectors> Playing<S> {
         limit: u64,
     ) -> Result<(), PlayEnd>
         requires bound { self.old.turns ≤ limit }
+        requires looked { self.old.looked ≤ self.old.turns }
         ensures bound { self.new.turns ≤ limit }
+        ensures looked { self.new.looked ≤ self.new.turns }
         ensures further { OnOk result (self.old.turns < self.new.turns) }
         ensures so_far { (start : PlayState S) (before : Seat) → Begins S.sectors S.faults start before self.old (K.seat station.old) → GoesRound S.sectors S.faults limit result start before self.new (K.seat station.new) }
     {
@@ -73,7 +75,7 @@ impl<S: Sectors> Playing<S> {
         if let Err(end) = self.attend(alloc, station) {
             return Err(end);
         }
-        if let Some(why) = self.take_turn() {
+        if let Some(why) = self.take_ready_turn() {
             return Err(PlayEnd::Run(why));
         }
         match self.show_much(station) {
@@ -85,6 +87,7 @@ impl<S: Sectors> Playing<S> {
     /// Makes steps until the session ends.
     fn play<K: Station>(&mut self, alloc: Global, station: &mut K, limit: u64) -> PlayEnd
         requires bound { self.old.turns ≤ limit }
+        requires looked { self.old.looked ≤ self.old.turns }
         ensures bound { self.new.turns ≤ limit }
         ensures so_far { (start : PlayState S) (before : Seat) → Begins S.sectors S.faults start before self.old (K.seat station.old) → Ends S.sectors S.faults limit result start before self.new (K.seat station.new) }
     {

@@ -3,7 +3,7 @@ use Rattle.std.proofs.Common.{◌≡◌, ◌+◌, ◌++◌, ℕ, List, append_as
 use Rattle.z80_cpu.specs.State.{Machine, up_by}
 use Rattle.debugger.specs.Instructions.{WritesCode, WritesInstruction, instruction_line, decoded_at, instruction_size}
 use Rattle.debugger.specs.Instructions.WritesCode.{more}
-use Rattle.debugger.specs.Labelled.{Known}
+use Rattle.state_text.specs.Labelled.{Known}
 
 -- The lines that are done, with those of the instructions that are left, are all lines.
 abbrev pub WroteSome : Known → Machine → ℕ → ℕ → ℕ → ℕ → List ℕ → Type 0

@@ -8,11 +8,11 @@ use Rattle.std.specs.Io.KnownBytes.{Appends, Consumes, IsAtEnd, Keeps}
 use Rattle.streams.specs.Stream.{Stream}
 use Rattle.debugger.specs.Conversation.{BeginsLines, HasNoEnd, SessionState, Talks, TalksOn, TalksThrough, with_ends}
 use Rattle.debugger.specs.Conversation.Talks.{none, more}
-use Rattle.debugger.specs.Labelled.{Known}
+use Rattle.state_text.specs.Labelled.{Known}
 use Rattle.debugger.specs.Private.Lines.{IsNextLine, TakesAllLines, TakesLines}
 use Rattle.debugger.specs.Session.{IsSameRun, Obeys}
-use Rattle.debugger.specs.Walk.{IsTrue_of_run, LeadsBy, Point, Shown, first_point, never}
-use Rattle.debugger.specs.Walk.LeadsBy.{none as stays}
+use Rattle.machine_history.specs.Walk.{IsTrue_of_run, LeadsBy, Point, Shown, first_point, never}
+use Rattle.machine_history.specs.Walk.LeadsBy.{none as stays}
 
 pub silent : (known : Known) (listing : List ℕ) (t : SessionState) (s : Stream) → TalksOn known listing [] t t s s
 silent known listing t s = ([], none t, Appends-nil s.bytes, λ held. (held, refl))

@@ -13,11 +13,11 @@ use Rattle.debugger.specs.declared.conversation.Broken.{Broken}
 use Rattle.debugger.specs.declared.conversation.Broken.TheVariants as broken
 use Rattle.debugger.specs.declared.debugging.DebugFault.{DebugFault}
 use Rattle.debugger.specs.declared.debugging.DebugFault.TheVariants as debug
-use Rattle.debugger.specs.declared.stops.Stops.{Stops}
-use Rattle.debugger.specs.Going.{IsFirstShown}
-use Rattle.debugger.specs.Labelled.{Known}
+use Rattle.machine_history.specs.declared.stops.Stops.{Stops}
+use Rattle.machine_history.specs.Going.{IsFirstShown}
+use Rattle.state_text.specs.Labelled.{Known}
 use Rattle.debugger.specs.Session.{Obeys}
-use Rattle.debugger.specs.Walk.{Shown}
+use Rattle.machine_history.specs.Walk.{Shown}
 
 -- Printing fails only if the stream fails, which is counted once.
 abbrev pub PrintsOrFails : Stream → Stream → Result Unit Broken → Type 0

@@ -6,8 +6,8 @@ use Rattle.z80_cpu.specs.State.{Machine, byte_at, up_by}
 use Rattle.z80_instr.specs.declared.Instr.{Instr}
 use Rattle.z80_table.specs.Reading.{read}
 use Rattle.z80_table.specs.declared.DecodeFault.{DecodeFault}
-use Rattle.debugger.specs.Labelled.{Known, labelled_address}
-use Rattle.debugger.specs.Printing.Memory.{shown_character}
+use Rattle.state_text.specs.Labelled.{Known, labelled_address}
+use Rattle.state_text.specs.Printing.Memory.{shown_character}
 
 -- the instruction at an address, with the number of its bytes; after FFFFH comes address 0
 abbrev pub decoded_at : List ℕ → ℕ → Result (Instr × ℕ) DecodeFault

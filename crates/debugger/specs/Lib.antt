@@ -1,14 +1,5 @@
-pub mod Coming
-pub mod Walk
-pub mod Calls
-pub mod Stops
-pub mod Labelled
 pub mod Instructions
-pub mod Going
-pub mod Alike
-pub mod Printing
-pub mod Typed
-pub mod Session
 pub mod Text
+pub mod Session
 pub mod Conversation
 pub mod Private

@@ -1,6 +1,3 @@
 -- Definitions that only private contracts use, so no public promise depends on them.
-pub mod Kept
-pub mod Typing
-pub mod Parts
 pub mod Lines
 pub mod Listing

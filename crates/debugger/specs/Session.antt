@@ -2,23 +2,23 @@
 use Rattle.std.specs.Prelude.{◌≡◌, ◌+◌, ◌-◌, ◌^◌, ◌||◌, ℕ, Bool, false, true, List, [], ◌∷◌, ◌++◌, map, min, Option, Some, None, Ok, Err, option_map, unwrap_or}
 use Rattle.std.specs.List.{range_with_len}
 use Rattle.z80_cpu.specs.State.{up_by}
-use Rattle.debugger.specs.declared.calls.ReturnPlace.{ReturnPlace}
-use Rattle.debugger.specs.declared.command.Command.{Command}
-use Rattle.debugger.specs.declared.command.Command.TheVariants as command
-use Rattle.debugger.specs.declared.history.Outcome.{Outcome}
-use Rattle.debugger.specs.declared.history.Outcome.TheVariants as outcome
-use Rattle.debugger.specs.declared.stops.Goal.{Goal}
-use Rattle.debugger.specs.declared.stops.Goal.TheVariants as goal
-use Rattle.debugger.specs.declared.stops.Hit.{Hit}
-use Rattle.debugger.specs.declared.stops.RegisterName.TheVariants as name
-use Rattle.debugger.specs.declared.stops.Stops.{Stops}
-use Rattle.debugger.specs.Calls.{IsCallBefore, call_place, shown_place}
-use Rattle.debugger.specs.Going.{RanUntil, ShowsTurn}
-use Rattle.debugger.specs.Labelled.{Known}
-use Rattle.debugger.specs.Stops.{IsLast}
+use Rattle.machine_history.specs.declared.calls.ReturnPlace.{ReturnPlace}
+use Rattle.debugger_commands.specs.declared.command.Command.{Command}
+use Rattle.debugger_commands.specs.declared.command.Command.TheVariants as command
+use Rattle.machine_history.specs.declared.history.Outcome.{Outcome}
+use Rattle.machine_history.specs.declared.history.Outcome.TheVariants as outcome
+use Rattle.machine_history.specs.declared.stops.Goal.{Goal}
+use Rattle.machine_history.specs.declared.stops.Goal.TheVariants as goal
+use Rattle.machine_history.specs.declared.stops.Hit.{Hit}
+use Rattle.state_text.specs.declared.registers.RegisterName.TheVariants as name
+use Rattle.machine_history.specs.declared.stops.Stops.{Stops}
+use Rattle.machine_history.specs.Calls.{IsCallBefore, call_place, shown_place}
+use Rattle.machine_history.specs.Going.{RanUntil, ShowsTurn}
+use Rattle.state_text.specs.Labelled.{Known}
+use Rattle.machine_history.specs.Stops.{IsLast}
 use Rattle.debugger.specs.Text.{Says, most_turns}
-use Rattle.debugger.specs.Typed.{Reading, line_meaning, refusal_line}
-use Rattle.debugger.specs.Walk.{IsTrue_of_run, Shown}
+use Rattle.debugger_commands.specs.Typed.{Reading, line_meaning, refusal_line}
+use Rattle.machine_history.specs.Walk.{IsTrue_of_run, Shown}
 
 -- the number of the last turn that can be counted
 abbrev pub last_turn : ℕ

@@ -1,30 +1,33 @@
 -- What is printed for the commands that show something.
-use Rattle.std.specs.Prelude.{◌≡◌, ◌+◌, ◌==◌, ◌&&◌, ℕ, Bool, List, [], ◌∷◌, ◌++◌, Option, Some, None, codes, decimal, drop, filter, find, if◌then◌else◌, length, map, nat_eq, nat_lt, not}
+use Rattle.std.specs.Prelude.{◌≡◌, ◌+◌, ◌==◌, ◌&&◌, ℕ, Bool, List, [], ◌∷◌, ◌++◌, Option, Some, None, codes, decimal, drop, filter, find, if◌then◌else◌, length, map, nat_eq, nat_lt, not, true}
 use Rattle.std.specs.List.{flat_map, starts_with}
 use Rattle.bstr.specs.Text.{lines_of, without_terminator}
+use Rattle.cpm_run.specs.Run.{why_text}
 use Rattle.cpm_run.specs.Turns.{bdos}
 use Rattle.cpm_run.specs.declared.ending.Why.{Why}
 use Rattle.hex.specs.Hex.{encode_upper}
 use Rattle.z80_cpu.specs.State.{Machine, up_by, word_at}
-use Rattle.debugger.specs.Printing.Columns.{word_text}
-use Rattle.debugger.specs.Printing.Memory.{memory_text, shown_character}
-use Rattle.debugger.specs.Printing.Registers.{registers_text}
-use Rattle.debugger.specs.declared.command.Command.{Command}
-use Rattle.debugger.specs.declared.command.Command.TheVariants as command
-use Rattle.debugger.specs.declared.history.Outcome.{Outcome}
-use Rattle.debugger.specs.declared.history.Outcome.TheVariants as outcome
+use Rattle.state_text.specs.Printing.Columns.{word_text}
+use Rattle.state_text.specs.Printing.Memory.{memory_text, shown_character}
+use Rattle.state_text.specs.Printing.Registers.{registers_text}
+use Rattle.debugger_commands.specs.declared.command.Command.{Command}
+use Rattle.debugger_commands.specs.declared.command.Command.TheVariants as command
+use Rattle.machine_history.specs.declared.history.Outcome.{Outcome}
+use Rattle.machine_history.specs.declared.history.Outcome.TheVariants as outcome
 use Rattle.debugger.specs.declared.session.TheConstants.{HELP}
-use Rattle.debugger.specs.declared.stops.Breakpoint.{Breakpoint}
-use Rattle.debugger.specs.declared.stops.Change.{Change}
-use Rattle.debugger.specs.declared.stops.Condition.{Condition}
-use Rattle.debugger.specs.declared.stops.Hit.{Hit}
-use Rattle.debugger.specs.declared.stops.Hit.TheVariants as hit
-use Rattle.debugger.specs.declared.stops.Stops.{Stops}
-use Rattle.debugger.specs.Instructions.{AreShown, WritesCode, WritesInstruction}
-use Rattle.debugger.specs.Labelled.{Known, labelled_address}
-use Rattle.debugger.specs.Stops.{IsLast}
-use Rattle.debugger.specs.Typed.{register_name}
-use Rattle.debugger.specs.Walk.{Shown}
+use Rattle.state_text.specs.declared.breakpoint.Breakpoint.{Breakpoint}
+use Rattle.machine_history.specs.declared.stops.Change.{Change}
+use Rattle.state_text.specs.declared.breakpoint.Condition.{Condition}
+use Rattle.machine_history.specs.declared.stops.Hit.{Hit}
+use Rattle.machine_history.specs.declared.stops.Hit.TheVariants as hit
+use Rattle.machine_history.specs.declared.stops.Stops.{Stops}
+use Rattle.debugger_commands.specs.declared.verb.Verb.{Verb}
+use Rattle.debugger.specs.Instructions.{WritesCode, WritesInstruction}
+use Rattle.state_text.specs.Labelled.{Known, labelled_address}
+use Rattle.machine_history.specs.Stops.{IsLast}
+use Rattle.state_text.specs.RegisterNames.{register_name}
+use Rattle.debugger_commands.specs.Typed.{verb_name}
+use Rattle.machine_history.specs.Walk.{Shown}
 
 -- ---- breakpoints and watched bytes
 
@@ -148,9 +151,9 @@ outcome_text known (Some (outcome.Held (hit.Changed change))) = codes "watch " +
 outcome_text known (Some outcome.Limit) = codes "limit of " ++ decimal most_turns ++ codes " turns\n"
 outcome_text known told = []
 
--- What is there: why the run has ended, in words that are not said here; or the instruction.
+-- What is there: why the run has ended; or the instruction.
 abbrev pub WritesPoint : Option Why → Machine → List ℕ → Type 0
-WritesPoint (Some why) machine what = AreShown what
+WritesPoint (Some why) machine what = what ≡ why_text why
 WritesPoint None machine what = WritesInstruction machine machine.cpu.pc what
 
 -- the line of a point: its number of turns, PC, and what is there
@@ -177,6 +180,14 @@ stack_offsets = 0 ∷ 2 ∷ 4 ∷ 6 ∷ 8 ∷ 10 ∷ 12 ∷ 14 ∷ []
 abbrev pub stack_text : Known → List ℕ → ℕ → List ℕ
 stack_text known memory sp = flat_map (λ offset. stack_word_line known memory (up_by offset sp)) stack_offsets
 
+-- ---- the list of `help`
+
+-- The lines begin with the names of these commands, in this order, each with a blank after it. Lines may follow that name none.
+abbrev pub ListsVerbs : List Verb → List (List ℕ) → Type 0
+ListsVerbs [] lines = Unit {0}
+ListsVerbs (verb ∷ rest) [] = ⊥
+ListsVerbs (verb ∷ rest) (line ∷ lines) = (starts_with nat_eq line (verb_name verb ++ codes " ") ≡ true) × ListsVerbs rest lines
+
 -- ---- what a command prints, given the breakpoints and watched bytes before it, how it ended, and what is shown before and after it. Of
 -- `files` this says nothing.
 abbrev pub Says : Command → Stops → Option Outcome → Shown → Shown → Known → List ℕ → List ℕ → Type 0
@@ -201,4 +212,4 @@ Says command.Next stops told old shown known listing text = SaysWhere told old s
 Says command.Finish stops told old shown known listing text = SaysWhere told old shown known text
 Says command.BackRun stops told old shown known listing text = SaysWhere told old shown known text
 Says command.BackNext stops told old shown known listing text = SaysWhere told old shown known text
-Says other stops told old shown known listing text = Unit {0}
+Says command.Files stops told old shown known listing text = Unit {0}

@@ -5,7 +5,7 @@ ghost use Rattle.std.specs.Io.KnownBytes.{Appends};
 ghost use Rattle.debugger.specs.Conversation.{Converses, HasNoEnd, PrintsOrFails, ReadsOn, TalksThrough};
 ghost use Rattle.debugger.specs.Private.Lines.{GetsLines, TakesAllLines, TakesLines};
 ghost use Rattle.debugger.specs.Session.{Obeys};
-ghost use Rattle.debugger.specs.Walk.{IsTrue_of_run};
+ghost use Rattle.machine_history.specs.Walk.{IsTrue_of_run};
 
 use crate::session::Session;
 use std::alloc::{AllocError, AllocFailed, Global};

@@ -2,17 +2,16 @@
 
 ghost use Rattle.std.specs.Prelude.{◌≡◌, ◌≤◌, IfOk, false, length, map};
 ghost use Rattle.debugger.specs.Conversation.{Debugs, DebugsTo};
-ghost use Rattle.debugger.specs.Labelled.{symbol_parts};
+ghost use Rattle.state_text.specs.Labelled.{symbol_parts};
 
-use crate::command::Symbol;
 use crate::conversation::{Broken, MOST_READS, converse};
-use crate::history::History;
-use crate::labels::Labels;
 use crate::session::Session;
 use cpm_console::MemoryConsole;
 use cpm_disk::Disk;
 use cpm_image::MemoryImage;
 use cpm_run::{Arrival, StartFault};
+use machine_history::History;
+use state_text::{Labels, Symbol};
 use std::alloc::Global;
 use streams::{Input, Sink};
 

@@ -1,91 +1,31 @@
 //! Laws of a debugged run, as functions that do nothing.
 
-ghost use Rattle.std.specs.Prelude.{◌≡◌, ℕ, [], List, Ok, Option, Some};
-ghost use Rattle.cpm_bdos.specs.Alike.{AlikeDisks};
+ghost use Rattle.std.specs.Prelude.{◌≡◌, ℕ, List, Option};
+ghost use Rattle.bstr.specs.Text.{lines_of};
 ghost use Rattle.cpm_disk.specs.Calls.{Mounted};
 ghost use Rattle.cpm_disk.specs.Image.{Image};
-ghost use Rattle.cpm_console.specs.Dialog.{Dialog, dialog_of};
-ghost use Rattle.cpm_run.specs.Play.{IsInOrder, PlayedRunEnds, first_state};
-ghost use Rattle.cpm_run.specs.Run.{TurnsEnd};
-ghost use Rattle.cpm_run.specs.Start.{IsStart};
+ghost use Rattle.cpm_console.specs.Dialog.{Dialog};
 ghost use Rattle.cpm_run.specs.declared.arriving.Arrival.{Arrival};
-ghost use Rattle.z80_cpu.specs.declared.registers.Cpu.{Cpu};
-ghost use Rattle.debugger.specs.Alike.{AlikeHistories, AlikePoints, AlikeStates, IsCalm, ShowsRun};
-ghost use Rattle.debugger.specs.Coming.{came_before};
+ghost use Rattle.machine_history.specs.Alike.{AlikeHistories, IsCalm};
 ghost use Rattle.debugger.specs.Conversation.{SessionState, Talks};
-ghost use Rattle.debugger.specs.Going.{IsFirstShown, RanUntil};
-ghost use Rattle.debugger.specs.Labelled.{Known};
+ghost use Rattle.machine_history.specs.Going.{IsFirstShown};
+ghost use Rattle.state_text.specs.Labelled.{Known};
 ghost use Rattle.debugger.specs.Session.{IsSameRun, Moves};
-ghost use Rattle.debugger.specs.Stops.{IsLast};
-ghost use Rattle.debugger.specs.declared.command.Command.{Command};
-ghost use Rattle.debugger.specs.declared.history.Outcome.{Outcome};
-ghost use Rattle.debugger.specs.declared.stops.Goal.{Goal};
-ghost use Rattle.debugger.specs.declared.stops.Hit.{Hit};
-ghost use Rattle.debugger.specs.declared.stops.Stops.{Stops};
-ghost use Rattle.debugger.specs.Walk.{IsAfter, IsTrue_of_run, Point, MemoryState, Shown, limit_end, run_of};
+ghost use Rattle.debugger.specs.Text.{ListsVerbs};
+ghost use Rattle.debugger_commands.specs.Typed.{every_verb};
+ghost use Rattle.debugger_commands.specs.declared.command.Command.{Command};
+ghost use Rattle.machine_history.specs.declared.history.Outcome.{Outcome};
+ghost use Rattle.debugger.specs.declared.session.TheConstants.{HELP};
+ghost use Rattle.machine_history.specs.declared.stops.Stops.{Stops};
+ghost use Rattle.machine_history.specs.Walk.{IsTrue_of_run, Shown};
 
-/// If no bytes of a record come, what is shown after n turns is what a run leaves that may make n turns: it ends with this state after n turns,
-/// because the run ends there or because of its limit.
-pub fn as_run()
-    ensures { (start : MemoryState) (n : ℕ) (p : Point) → start.coming ≡ [] → IsAfter start n p →
-        TurnsEnd (λ image. image) (λ image. 0) (λ dialog. dialog) n (run_of start) (limit_end p.end) n (run_of p.state) }
-{}
-
-/// If the bytes of a record come, what is shown after n turns is what a session leaves that may make n turns, with the same program, words and
-/// disk, to which the bytes of the record came that were to come before. So by [`cpm_run::laws::one_session`] a debugger shows what the
-/// program does when it is played again.
-pub fn is_session()
-    ensures { (file : List ℕ) (words : List (List ℕ)) (disk : Mounted Image) (recorded : List Arrival) (last : ℕ) (shown : Shown) (n : ℕ) (p : Point) →
-        IsFirstShown file words disk (dialog_of [] (Some []) 0) recorded shown → IsInOrder recorded last → IsCalm p → IsAfter shown.start n p →
-        (cpu : Cpu) × (memory : List ℕ) × IsStart file words (Ok (cpu, memory))
-        × PlayedRunEnds (λ image. image) (λ image. 0) n (first_state cpu memory disk) (limit_end p.end) (record { run = run_of p.state; turns = n; arrivals = came_before n recorded; shown = [] }) }
-{}
+pub use machine_history::laws::{as_run, is_session, one_last, one_session, one_state, one_stop};
 
 /// Whatever lines are obeyed, what a session shows is a point of the one run that it began with, after its number of turns.
 pub fn same_run()
     ensures { (file : List ℕ) (words : List (List ℕ)) (disk : Mounted Image) (console : Dialog) (recorded : List Arrival) (known : Known) (listing : List ℕ) (lines : List (List ℕ)) (said : List ℕ) (old new : SessionState) →
         IsFirstShown file words disk console recorded old.shown → Talks known listing old lines said new → IsSameRun old.shown new.shown }
 {}
-
-/// A run has one state after each number of turns. Two runs that begin in states that look alike are, after as many turns, in states that
-/// look alike: with the same registers, memory, input and output, the same files on their disks, and the same bytes still to come. They go on
-/// there, or end for the same reason. A state in which memory has run out for what the program printed, or for a byte that came, is left out.
-pub fn one_state()
-    ensures { (printed : List ℕ) (start beginning : MemoryState) (n : ℕ) (p q : Point) →
-        AlikeStates printed start beginning → IsCalm p → IsCalm q → IsAfter start n p → IsAfter beginning n q → AlikePoints printed p q }
-{
-    z80_machine::laws::one_turn();
-}
-
-/// What a debugger shows is a function of the program, its words, its disk, its input, the bytes of the record, and the number of the turn that
-/// it was to show. It does not matter which commands led there, and which states were kept on the way.
-pub fn one_session()
-    ensures { (file : List ℕ) (words : List (List ℕ)) (disk other : Mounted Image) (input : List ℕ) (recorded : List Arrival) (turn : ℕ) (one two : Shown) →
-        AlikeDisks (λ image. image) disk other → ShowsRun file words disk input recorded turn one → ShowsRun file words other input recorded turn two →
-        (two.turn ≡ one.turn) × AlikePoints [] one.point two.point }
-{
-    z80_machine::laws::one_turn();
-}
-
-/// `run`, `next` and `finish` stop in one place. From points that look alike, with the same goal, breakpoints, watched bytes and limit, they
-/// lead to points that look alike, after as many turns and for the same reason.
-pub fn one_stop()
-    ensures { (printed : List ℕ) (goal : Option Goal) (stops : Stops) (limit : ℕ) (old other new there : Shown) (outcome reason : Outcome) →
-        AlikePoints printed old.point other.point → other.turn ≡ old.turn → IsCalm new.point → IsCalm there.point →
-        RanUntil goal stops limit old new outcome → RanUntil goal stops limit other there reason →
-        (reason ≡ outcome) × (there.turn ≡ new.turn) × AlikePoints printed new.point there.point }
-{
-    z80_machine::laws::one_turn();
-}
-
-/// `who` and `back-run` have one answer: in two histories of runs that begin alike, the same turn is the last of the first n at which
-/// something held, and the same held at it.
-pub fn one_last()
-    ensures { (printed : List ℕ) (stops : Stops) (shown other : Shown) (n : ℕ) (last found : Option (ℕ × Hit)) →
-        AlikeStates printed shown.start other.start → IsCalm shown.point → IsCalm other.point → IsLast stops shown n last → IsLast stops other n found → found ≡ last }
-{
-    z80_machine::laws::one_turn();
-}
 
 /// A command has one answer. Histories of runs that begin alike, and that show the same, show the same after it, and it ends for the same
 /// reason.
@@ -96,3 +36,8 @@ pub fn one_move()
 {
     z80_machine::laws::one_turn();
 }
+
+/// The list that `help` prints has the commands in the order in which a shortened word is looked for among them.
+pub fn help_is_in_order()
+    ensures { ListsVerbs every_verb (lines_of HELP.now) }
+{}

@@ -3,37 +3,22 @@
 //! [`debug`] debugs a program: it reads commands and prints the answers. [`History`] shows the state of a run after any number of turns. [`Session`] answers commands, a line each.
 #![tactic(auto)]
 
-mod calls;
-mod coming;
-mod command;
 mod conversation;
 mod debugging;
-mod history;
-mod kept;
-mod labels;
 pub mod laws;
-mod point;
-mod printing;
-mod refusal;
-mod registers;
 mod session;
-mod snapshot;
-mod stops;
+mod setting;
 mod text;
-mod verb;
-mod words;
 
-pub use calls::ReturnPlace;
-pub use command::{Command, Symbol};
 pub use conversation::{Broken, MOST_READS, converse};
 pub use cpm_run::{Arrival, StartFault, Why};
+pub use debugger_commands::{Command, Refusal, Verb};
 pub use debugging::{DebugFault, Program, debug};
-pub use history::{History, Outcome};
-pub use labels::{Labels, put_label};
-pub use point::Point;
-pub use printing::{put_blanks, put_column, put_memory, put_number, put_registers, put_word};
-pub use refusal::Refusal;
+pub use machine_history::{
+    Change, Goal, History, Hit, Outcome, Point, ReturnPlace, Snapshot, Stops,
+};
 pub use session::{MOST_TURNS, Session};
-pub use snapshot::Snapshot;
-pub use stops::{Breakpoint, Change, Condition, Goal, Hit, RegisterName, Stops};
-pub use verb::Verb;
+pub use state_text::{
+    Breakpoint, Condition, Labels, RegisterName, Symbol, put_blanks, put_column, put_label,
+    put_memory, put_number, put_registers, put_word,
+};

@@ -3,17 +3,14 @@
 ghost use Rattle.std.specs.Prelude.{◌≡◌, drop};
 ghost use Rattle.debugger.specs.Session.{at_place};
 
-use crate::calls::{ReturnPlace, call_place};
-use crate::command::{Command, command_of};
-use crate::history::{History, Outcome};
-use crate::labels::Labels;
-use crate::printing::{put_memory, put_registers};
-use crate::refusal::refusal_line;
-use crate::stops::{Breakpoint, Condition, Goal, Hit, RegisterName, Stops};
+use crate::setting::set;
 use crate::text::{
     put_breakpoint, put_files, put_instructions, put_outcome, put_output, put_point, put_stack,
     put_stops, put_watch, put_where, put_who,
 };
+use debugger_commands::{Command, command_of, refusal_line};
+use machine_history::{Goal, History, Hit, Outcome, ReturnPlace, Stops, call_place};
+use state_text::{Breakpoint, Condition, Labels, RegisterName, put_memory, put_registers};
 use std::alloc::{AllocError, Global};
 
 /// The most turns that one command makes which runs to something: `run`, `next` or `finish`.
@@ -79,17 +76,17 @@ fn at_place(place: ReturnPlace) -> Goal
 
 impl<'a> Session<'a> {
     ghost use Rattle.std.specs.Prelude.{◌≡◌, ◌||◌, [], ℕ, IfOk, List, false, length};
-    ghost use Rattle.debugger.specs.Calls.{call_place};
-    ghost use Rattle.debugger.specs.Stops.{IsLast};
+    ghost use Rattle.machine_history.specs.Calls.{call_place};
+    ghost use Rattle.machine_history.specs.Stops.{IsLast};
     ghost use Rattle.debugger.specs.Instructions.{WritesCode};
     ghost use Rattle.debugger.specs.Private.Listing.{ListsStops};
-    ghost use Rattle.debugger.specs.Printing.Memory.{memory_text};
-    ghost use Rattle.debugger.specs.Printing.Registers.{registers_text};
+    ghost use Rattle.state_text.specs.Printing.Memory.{memory_text};
+    ghost use Rattle.state_text.specs.Printing.Registers.{registers_text};
     ghost use Rattle.debugger.specs.Text.{Printed, Says, SaysWhere, SaysWho, Watches, breakpoint_line, output_text, stack_text, watch_line, where_text};
-    ghost use Rattle.debugger.specs.declared.stops.Stops.{Stops as TheStops};
+    ghost use Rattle.machine_history.specs.declared.stops.Stops.{Stops as TheStops};
     ghost use Rattle.debugger.specs.Session.{BackNexts, BackRuns, GoesTo, Obeys, Moves, Nexts, RunsOn, Sets, is_quit};
-    ghost use Rattle.debugger.specs.Walk.{IsTrue_of_run, Shown};
-    ghost use Rattle.debugger.specs.declared.command.Command.TheVariants as command;
+    ghost use Rattle.machine_history.specs.Walk.{IsTrue_of_run, Shown};
+    ghost use Rattle.debugger_commands.specs.declared.command.Command.TheVariants as command;
 
     /// A session without breakpoints.
     pub fn new(alloc: Global, history: History<'a>, labels: Labels) -> Session<'a>
@@ -247,7 +244,7 @@ impl<'a> Session<'a> {
         ensures listing { self.new.listing ≡ self.old.listing }
     {
         let told = self.go(command)?;
-        self.stops.set(self.alloc, command)?;
+        set(self.alloc, &mut self.stops, command)?;
         self.is_over = self.is_over || command == Command::Quit;
         Ok(told)
     }

@@ -1,25 +1,20 @@
 //! What a session prints.
 
-ghost use Rattle.std.specs.Prelude.{◌≡◌, ◌==◌, ◌<◌, ◌++◌, ◌∷◌, [], ℕ, IfOk, List, OnOk, codes, filter, map, not, option_map, true};
+ghost use Rattle.std.specs.Prelude.{◌≡◌, ◌==◌, ◌<◌, ◌++◌, ◌∷◌, [], ℕ, IfOk, List, OnOk, codes, filter, not, option_map, true};
 ghost use Rattle.hex.specs.Hex.{encode_upper};
 ghost use Rattle.std.specs.List.{flat_map};
 ghost use Rattle.z80_cpu.specs.State.{machine, up_by};
 ghost use Rattle.debugger.specs.Instructions.{WritesDecoded, WritesCode, WritesInstruction, byte_number, bios_entry_at, instruction_line, decoded_at, instruction_size};
-ghost use Rattle.debugger.specs.Labelled.{label_after, labelled_address};
-ghost use Rattle.debugger.specs.Printing.Memory.{shown_character};
+ghost use Rattle.state_text.specs.Labelled.{label_after, labelled_address};
 ghost use Rattle.debugger.specs.Text.{WritesPoint, breakpoint_line, breakpoint_lines, call_text, change_line, changer_text, condition_after, count_after, follows, listing_text, line_with, outcome_text, output_text, point_line, printed_line, stack_word_line, stack_text, stops_text, unchanged_line, values_text, watch_line, watched_line, watched_lines, where_text, who_text};
 
-use crate::history::Outcome;
-use crate::labels::{Labels, put_label};
-use crate::point::Point;
-use crate::printing::{put_word, shown_character};
 use crate::session::MOST_TURNS;
-use crate::snapshot::Snapshot;
-use crate::stops::{Breakpoint, Change, Condition, Hit, Stops};
 use bstr::ByteSlice;
 use cpm_disk::Disk;
 use cpm_image::MemoryImage;
 use cpm_run::{BDOS, BIOS, bios_entry, is_finished};
+use machine_history::{Change, Hit, Outcome, Point, Snapshot, Stops};
+use state_text::{Breakpoint, Condition, Labels, put_characters, put_label, put_word};
 use std::alloc::{AllocError, Global};
 use z80_cpu::{Cpu, Memory};
 use z80_table::{DecodeFault, Instr, decode};
@@ -145,7 +140,7 @@ fn put_what(alloc: Global, point: &Point<'_>, text: &mut Vec<u8>) -> Result<(), 
 {
     let snapshot = point.snapshot();
     match point.end() {
-        Some(why) => put_characters(format!(in alloc; "{why}")?.as_bytes(), text),
+        Some(why) => text.extend_from_slice(format!(in alloc; "{why}")?.as_bytes()),
         None => {
             let cpu = snapshot.cpu();
             put_instruction(alloc, cpu, snapshot.memory(), cpu.pc, text)
@@ -442,16 +437,6 @@ fn without_returns(alloc: Global, bytes: &[u8]) -> Result<Vec<u8>, AllocError>
         }
     }
     Ok(kept)
-}
-
-/// Appends bytes, with a full stop for each byte that is no character.
-pub(crate) fn put_characters(bytes: &[u8], text: &mut Vec<u8>) -> Result<(), AllocError>
-    ensures { OnOk result (text.new.items ≡ text.old.items ++ map shown_character bytes.now) }
-{
-    for byte in bytes {
-        text.push(shown_character(*byte))?;
-    }
-    Ok(())
 }
 
 /// A line that the program has printed, after `| `.

@@ -1,2 +1,2 @@
-pub mod Places
-pub mod Texts
+pub use Rattle.message_texts.specs.Places
+pub use Rattle.message_texts.specs.Texts

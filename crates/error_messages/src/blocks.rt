@@ -1,17 +1,15 @@
 //! Blocks, and macros.
 
-use crate::advice::{Opening, directive_instead, opens};
-use crate::case::Case;
-use crate::draft::Draft;
-use crate::lines::{
-    Divided, closers_after, is_in_repetition, open_condition, other_opener, tokens_of, word_in,
-};
-use crate::reserved::reserved_text;
-use crate::showing::{joined, shown};
-use crate::worth::{Worth, judge};
 use asm_line::{BlockWord, Head, form_of, is_name, is_word};
 use asm_scan::{Kind, Mark};
 use common::is_reserved;
+use error_lines::{
+    Case, Divided, Worth, closers_after, is_in_repetition, judge, open_condition, other_opener,
+    word_in,
+};
+use foreign_words::{Opening, directive_instead, opens};
+use message_texts::{Draft, joined, shown};
+use operand_forms::{reserved_text, tokens_of};
 use std::alloc::{AllocError, Global};
 
 /// A block word as it is written.

@@ -1,15 +1,13 @@
 //! Names that have no value yet where IF and REPT are processed.
 
-use crate::case::Case;
-use crate::draft::Draft;
-use crate::hidden::Why;
-use crate::lines::{Wanted, first_line, tokens_of};
-use crate::showing::shown;
 use asm_line::{Head, form_of, is_name};
 use asm_scan::{Kind, Mark, Token};
 use bstr::ByteSlice;
 use common::{NameKey, is_reserved};
+use error_lines::{Case, Wanted, Why, first_line};
 use indexmap::IndexMap;
+use message_texts::{Draft, shown};
+use operand_forms::tokens_of;
 use std::alloc::AllocError;
 
 /// Names in upper case that EQU lines define from numbers alone, and those lines.

@@ -3,21 +3,17 @@
 ghost use Rattle.std.specs.Prelude.{◌≡◌, ◌<◌, ℕ, List, All, Ok, IfOk, length};
 ghost use Rattle.asm_scan.specs.Tokens.{Lexeme, lexemes};
 ghost use Rattle.asm_scan.specs.Scanned.{scanned};
-ghost use Rattle.error_messages.specs.Places.{CoversTokens, IsInLine};
-ghost use Rattle.error_messages.specs.Texts.{HasLines, IsNote, IsOneLine};
+ghost use Rattle.message_texts.specs.Places.{CoversTokens, IsInLine};
+ghost use Rattle.message_texts.specs.Texts.{HasLines, IsNote, IsOneLine};
 
-use crate::case::Case;
-use crate::draft::Draft;
-use crate::parts::{Message, Note};
-use crate::place::place_of;
-use crate::showing::shown;
-use crate::source::SourceLines;
-use crate::{blocks, names, scanning, values};
+use crate::blocks;
 use asm_line::form_of;
 use asm_macro::MacroFault;
 use asm_module::{StmtFault, Why};
 use asm_parse::ExprFault;
 use asm_scan::{ScanFault, Token, tokens};
+use error_lines::{Case, SourceLines};
+use message_texts::{Draft, Message, Note, place_of, shown};
 use source_errors::{Finding, Known};
 use std::alloc::{AllocError, Global};
 
@@ -63,15 +59,15 @@ fn finished(
 /// The message about a line's statement that has an error.
 fn on_statement(case: &Case<'_>, why: StmtFault) -> Result<Draft, AllocError> {
     match why {
-        StmtFault::UnknownWord => crate::words::unknown(case),
-        StmtFault::BadOperands => crate::misfit::wrong_operands(case),
-        StmtFault::ByteRange => values::out_of_range(case),
-        StmtFault::NeedsLowOrHigh => crate::bytes::needs_low_or_high(case),
-        StmtFault::ShortNeedsLabel => values::short_needs_label(case),
-        StmtFault::SizeNamesLabel => values::size_varies(case),
-        StmtFault::BadOrg => values::bad_origin(case),
-        StmtFault::NeedsNumber => values::needs_number(case),
-        StmtFault::ReservedName => names::reserved_name(case),
+        StmtFault::UnknownWord => statement_errors::unknown(case),
+        StmtFault::BadOperands => statement_errors::wrong_operands(case),
+        StmtFault::ByteRange => value_errors::out_of_range(case),
+        StmtFault::NeedsLowOrHigh => value_errors::needs_low_or_high(case),
+        StmtFault::ShortNeedsLabel => value_errors::short_needs_label(case),
+        StmtFault::SizeNamesLabel => value_errors::size_varies(case),
+        StmtFault::BadOrg => value_errors::bad_origin(case),
+        StmtFault::NeedsNumber => value_errors::needs_number(case),
+        StmtFault::ReservedName => value_errors::reserved_name(case),
         StmtFault::Expr(fault) => on_expression(case, fault),
         StmtFault::NoMemory => Err(AllocError),
     }
@@ -80,11 +76,11 @@ fn on_statement(case: &Case<'_>, why: StmtFault) -> Result<Draft, AllocError> {
 /// The message about an expression that is none, or that has no value.
 fn on_expression(case: &Case<'_>, why: ExprFault) -> Result<Draft, AllocError> {
     match why {
-        ExprFault::Syntax => crate::syntax::no_expression(case),
-        ExprFault::DivideByZero => crate::dividing::divides_by_zero(case),
-        ExprFault::LabelDivisor => crate::dividing::divisor_varies(case),
-        ExprFault::TooDeep => values::too_deep(case),
-        ExprFault::TooLarge => values::too_large(case),
+        ExprFault::Syntax => syntax_errors::no_expression(case),
+        ExprFault::DivideByZero => value_errors::divides_by_zero(case),
+        ExprFault::LabelDivisor => value_errors::divisor_varies(case),
+        ExprFault::TooDeep => value_errors::too_deep(case),
+        ExprFault::TooLarge => value_errors::too_large(case),
         ExprFault::NoMemory => Err(AllocError),
     }
 }
@@ -98,8 +94,8 @@ fn on_expansion(case: &Case<'_>, why: MacroFault) -> Result<Draft, AllocError> {
         MacroFault::TooManyLines => blocks::too_many_lines(case),
         MacroFault::Redefined => blocks::redefined(case),
         MacroFault::ConditionNamesLabel => crate::conditions::condition_names_label(case),
-        MacroFault::LineTooLong => scanning::too_long(case.alloc, &case.finding.text),
-        MacroFault::Scan(fault) => scanning::unscanned(case, fault),
+        MacroFault::LineTooLong => syntax_errors::too_long(case.alloc, &case.finding.text),
+        MacroFault::Scan(fault) => syntax_errors::unscanned(case, fault),
         MacroFault::Expr(fault) => on_expression(case, fault),
         MacroFault::NoMemory => Err(AllocError),
     }
@@ -110,12 +106,12 @@ fn drafted(case: &Case<'_>) -> Result<Draft, AllocError> {
     match case.finding.why {
         Why::Macro(why) => on_expansion(case, why),
         Why::Stmt(why) => on_statement(case, why),
-        Why::Duplicate => names::duplicate(case),
+        Why::Duplicate => value_errors::duplicate(case),
         Why::Undefined => crate::undefined::undefined(case),
-        Why::PublicNotLabel => names::no_label(case),
-        Why::EquCircle => crate::circles::circle(case),
-        Why::TooManyStatements => names::too_many_statements(case),
-        Why::TooManyNames => names::too_many_names(case),
+        Why::PublicNotLabel => value_errors::no_label(case),
+        Why::EquCircle => value_errors::circle(case),
+        Why::TooManyStatements => value_errors::too_many_statements(case),
+        Why::TooManyNames => value_errors::too_many_names(case),
         Why::NoMemory => Err(AllocError),
     }
 }
@@ -155,7 +151,7 @@ fn drafted_uncut<'c>(
         tokens,
         form: form_of(tokens),
     };
-    scanning::unscanned(&case, fault)
+    syntax_errors::unscanned(&case, fault)
 }
 
 /// Answers the message about an error: where in its line it is, what it means, and what to write instead. Notes name the lines of the source

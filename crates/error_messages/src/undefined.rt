@@ -1,23 +1,15 @@
 //! Names that are not defined.
 
-use crate::advice::is_undocumented_register;
-use crate::case::Case;
-use crate::draft::Draft;
-use crate::forms::is_jump;
-use crate::hidden::Why;
-use crate::names::{defined_at, is_made, kind_text, name_of};
-use crate::near::is_near;
-use crate::need::{Need, need_at};
-use crate::place::token_named;
-use crate::registers::current_address;
-use crate::scanning::hexadecimal;
-use crate::showing::shown;
-use crate::split::with_underscore;
-use asm_line::{Head, is_name};
+use asm_line::is_name;
 use common::is_reserved;
+use error_lines::{Case, Why};
+use foreign_words::is_undocumented_register;
+use message_texts::{Draft, shown, token_named};
 use source_errors::Known;
+use statement_errors::{is_near, with_underscore};
 use std::alloc::AllocError;
-use z80_form::mnemonic_of;
+use syntax_errors::{current_address, goes, hexadecimal};
+use value_errors::{Need, defined_at, is_made, kind_text, name_of, need_at};
 
 /// The first defined name that is near to this one, and its index in the table.
 fn nearest(known: &Known, name: &[u8]) -> Option<usize> {
@@ -131,14 +123,6 @@ fn all_undefined(case: &Case<'_>) -> Result<String, AllocError> {
         }
     }
     Ok(names)
-}
-
-/// Whether the line jumps or calls.
-pub(crate) fn goes(case: &Case<'_>) -> bool {
-    match case.form.head {
-        Head::Word(word) => mnemonic_of(word).is_some_and(|mnemonic| is_jump(mnemonic)),
-        _ => false,
-    }
 }
 
 /// A name that is written with `-` as the target of a jump, as it can be written.

@@ -6,4 +6,4 @@ pub mod Judging_lines
 pub mod Naming_lines
 pub mod Sound
 pub mod Taking
-pub mod Circles
+pub mod Made

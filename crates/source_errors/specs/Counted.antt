@@ -29,12 +29,16 @@ without_last line = take (length line - 1) line
 abbrev pub extrn_of : List Lexeme → List ℕ
 extrn_of tokens = without_last (codes "EXTRN " ++ flat_map free_name tokens)
 
+-- whether this is a word of the statement that declares externals
+abbrev pub is_extrn_word : List ℕ → Bool
+is_extrn_word word = str_eq_ignore_ascii_case word (codes "EXTRN") || str_eq_ignore_ascii_case word (codes "EXTERNAL")
+
 -- The names that a line defines, as a line of its own: a label; an EQU of itself, which has no value; an EXTRN; an empty line if it defines
 -- none.
 abbrev pub alone_by : Option (List ℕ) → Head → List Lexeme → List ℕ
 alone_by label (Equ name) rest = name ++ codes " EQU " ++ name
 alone_by (Some name) head rest = name ++ codes ":"
-alone_by None (Word word) rest = if str_eq_ignore_ascii_case word (codes "EXTRN") then extrn_of rest else []
+alone_by None (Word word) rest = if is_extrn_word word then extrn_of rest else []
 alone_by None head rest = []
 
 abbrev pub defined_name_alone : List ℕ → List ℕ

@@ -1,5 +1,5 @@
 -- All errors of a source.
-use Rattle.std.specs.Prelude.{◌≡◌, ℕ, zero, suc, ◌-◌, ◌==◌, ◌&&◌, not, Bool, List, [], ◌∷◌, ◌++◌, Option, Some, None, Result, Ok, Err, false, filter, if◌then◌else◌, is_none, length, slice_index_or, take, true}
+use Rattle.std.specs.Prelude.{◌≡◌, ◌≢◌, ℕ, zero, suc, ◌-◌, ◌==◌, ◌&&◌, ◌||◌, not, Bool, List, [], ◌∷◌, ◌++◌, Option, Some, None, Result, Ok, Err, false, filter, if◌then◌else◌, is_none, length, slice_index_or, take, true}
 use Rattle.std.specs.List.{filter_map, flat_map, list_any}
 use Rattle.std.specs.Option.{option_map}
 use Rattle.std.specs.Str.{bytes_eq}
@@ -77,8 +77,16 @@ is_circle why = false
 abbrev pub is_made_circle : List ℕ → Finding → Bool
 is_made_circle text f = is_circle f.why && bytes_eq f.line.text (defined_name_alone f.line.text) && not (bytes_eq f.line.text (line_at text f.line.number))
 
-abbrev pub without_made_circles : List ℕ → List Finding → List Finding
-without_made_circles text found = filter (λ f. not (is_made_circle text f)) found
+-- An error of the text as which a line counts that cannot be cut into tokens. That error of tokens is reported already.
+abbrev pub is_of_mended : List ℕ → Finding → Bool
+is_of_mended line f = not (is_none (scan_fault line)) && bytes_eq f.line.text (mended line)
+
+-- The error is none of the source, only of the texts as which its lines count.
+abbrev pub is_made : List ℕ → Finding → Bool
+is_made text f = is_made_circle text f || is_of_mended (line_at text f.line.number) f
+
+abbrev pub without_made : List ℕ → List Finding → List Finding
+without_made text found = filter (λ f. not (is_made text f)) found
 
 -- An expansion stops since a line cannot be cut into tokens.
 abbrev pub is_of_tokens : MacroFault → Bool
@@ -89,15 +97,15 @@ is_of_tokens why = false
 -- The errors of the other lines, if the expansion stops for tokens at a line with this number: those of the expansion in which lines that
 -- cannot be cut into tokens are mended; none if that expansion stops too.
 pub data AreOthers (grow : Bool) (text : List ℕ) (number : ℕ) : List Finding → Type 0 where
-  unknown : (stop : ℕ × MacroFault) → IsExpanded (mended_text text) (Err stop) → AreOthers grow text number []
+  unknown : (stop : ℕ × MacroFault) → stop.1 ≢ MacroFault.NoMemory → IsExpanded (mended_text text) (Err stop) → AreOthers grow text number []
   known : {lines : List Numbered} {found : List Finding} → IsExpanded (mended_text text) (Ok lines) → AreErrors grow lines found
-      → AreOthers grow text number (scan_errors number lines text ++ without_made_circles text found)
+      → AreOthers grow text number (scan_errors number lines text ++ without_made text found)
 
 -- All errors of a source: those of the lines of its expansion; or if that stops, this error, and if it stops for tokens, those of the other
 -- lines.
 pub data AreFindings (grow : Bool) (text : List ℕ) : List Finding → Type 0 where
   whole : {lines : List Numbered} {found : List Finding} → IsExpanded text (Ok lines) → AreErrors grow lines found → AreFindings grow text found
-  stopped : {number : ℕ} (why : MacroFault) → IsExpanded text (Err (number, why)) → is_of_tokens why ≡ false
+  stopped : {number : ℕ} (why : MacroFault) → why ≢ MacroFault.NoMemory → IsExpanded text (Err (number, why)) → is_of_tokens why ≡ false
       → AreFindings grow text (plain number (line_at text number) (macro_why why) ∷ [])
   mends : {number : ℕ} {others : List Finding} (why : MacroFault) → IsExpanded text (Err (number, why)) → is_of_tokens why ≡ true → AreOthers grow text number others
       → AreFindings grow text (plain number (line_at text number) (macro_why why) ∷ others)

@@ -6,7 +6,7 @@ ghost use Rattle.std.specs.Option.{option_map};
 ghost use Rattle.asm_scan.specs.Tokens.{lexeme, lexemes};
 ghost use Rattle.asm_line.specs.Views.{form_seen};
 ghost use Rattle.asm_module.specs.Reads.Read.{read_line};
-ghost use Rattle.source_errors.specs.Counted.{after_colon, alone_by, defined_name_alone, extrn_of, free_name, meant_as, meant_by, with_colon};
+ghost use Rattle.source_errors.specs.Counted.{after_colon, alone_by, defined_name_alone, extrn_of, free_name, is_extrn_word, meant_as, meant_by, with_colon};
 
 use crate::reading::read_line;
 use asm_line::{Form, Head, form_of, is_name};
@@ -55,6 +55,13 @@ fn extrn_of(alloc: Global, tokens: &[Token<'_>]) -> Result<Vec<u8>, AllocError>
     Ok(line)
 }
 
+/// Whether this is a word of the statement that declares externals.
+fn is_extrn_word(word: &[u8]) -> bool
+    ensures { result ≡ is_extrn_word word.now }
+{
+    word.eq_ignore_ascii_case(b"EXTRN") || word.eq_ignore_ascii_case(b"EXTERNAL")
+}
+
 /// Answers the line of only the names that a line of this form defines, or an empty one.
 fn alone(alloc: Global, form: Form<'_>) -> Result<Vec<u8>, AllocError>
     ensures { IfOk result (λ text. text.items ≡ alone_by (form_seen form.entry).label (form_seen form.entry).head (form_seen form.entry).rest) }
@@ -62,9 +69,7 @@ fn alone(alloc: Global, form: Form<'_>) -> Result<Vec<u8>, AllocError>
     match (form.head, form.label) {
         (Head::Equ(name), _) => circle(alloc, name),
         (_, Some(name)) => joined(alloc, name, b":"),
-        (Head::Word(word), None) if word.eq_ignore_ascii_case(b"EXTRN") => {
-            extrn_of(alloc, form.rest)
-        }
+        (Head::Word(word), None) if is_extrn_word(word) => extrn_of(alloc, form.rest),
         (_, None) => Ok(Vec::new(alloc)),
     }
 }

@@ -7,7 +7,7 @@ ghost use Rattle.asm_macro.specs.Texts.{source_lines};
 ghost use Rattle.asm_macro.specs.Views.{lines_seen};
 ghost use Rattle.asm_text.specs.Lines.{Numbered};
 ghost use Rattle.source_errors.specs.Findings.{finding_of};
-ghost use Rattle.source_errors.specs.Found.{front, is_made_circle, mended, mended_text, scan_error, scan_errors, scan_fault, without_made_circles};
+ghost use Rattle.source_errors.specs.Found.{front, is_made, is_made_circle, is_of_mended, mended, mended_text, scan_error, scan_errors, scan_fault, without_made};
 
 use crate::finding::Finding;
 use crate::mending::defined_name_alone;
@@ -79,17 +79,39 @@ fn is_made_circle(alloc: Global, lines: &Lines<'_>, finding: &Finding) -> Result
     Ok(finding.text == alone && finding.text.as_slice() != lines.line(at))
 }
 
-/// Appends errors, but the circles as which lines count that cannot be cut into tokens: the source does not have them.
-pub(crate) fn append_without_made_circles(
+/// Whether an error is one of the text as which this line counts, since the line cannot be cut into tokens.
+fn is_of_mended(alloc: Global, line: &[u8], finding: &Finding) -> Result<bool, AllocError>
+    ensures { IfOk result (λ is. is ≡ is_of_mended line.now (finding_of finding.now)) }
+{
+    if fault_of(alloc, line)?.is_none() {
+        return Ok(false);
+    }
+    let mended = defined_name_alone(alloc, front(alloc, line)?)?;
+    Ok(finding.text == mended)
+}
+
+/// Whether an error is none of the source, but only of the texts as which its lines count.
+fn is_made(alloc: Global, lines: &Lines<'_>, finding: &Finding) -> Result<bool, AllocError>
+    ensures { IfOk result (λ made. (text : List ℕ) → lines.now ≡ source_lines text → made ≡ is_made text (finding_of finding.now)) }
+{
+    if is_made_circle(alloc, lines, finding)? {
+        return Ok(true);
+    }
+    let at = (finding.number as usize).saturating_sub(1);
+    is_of_mended(alloc, lines.line(at), finding)
+}
+
+/// Appends errors, but those of the texts as which lines count that cannot be cut into tokens: the source does not have them.
+pub(crate) fn append_without_made(
     alloc: Global,
     lines: &Lines<'_>,
     others: Vec<Finding>,
     findings: &mut Vec<Finding>,
 ) -> Result<(), AllocError>
-    ensures { OnOk result ((text : List ℕ) → lines.now ≡ source_lines text → map finding_of findings.new.items ≡ map finding_of findings.old.items ++ without_made_circles text (map finding_of others.items)) }
+    ensures { OnOk result ((text : List ℕ) → lines.now ≡ source_lines text → map finding_of findings.new.items ≡ map finding_of findings.old.items ++ without_made text (map finding_of others.items)) }
 {
     for finding in others {
-        if !is_made_circle(alloc, lines, &finding)? {
+        if !is_made(alloc, lines, &finding)? {
             findings.push(finding)?;
         }
     }

@@ -1,6 +1,6 @@
 //! Finds all errors of a source.
 
-ghost use Rattle.std.specs.Prelude.{◌≡◌, ◌<◌, ◌^◌, ◌++◌, ◌-◌, ◌∷◌, [], ℕ, All, List, None, IfOk, OnOk, length, map, slice_index_or, Err, Ok};
+ghost use Rattle.std.specs.Prelude.{◌≡◌, ◌≢◌, ◌<◌, ◌^◌, ◌++◌, ◌-◌, ◌∷◌, [], ℕ, All, List, None, IfOk, OnOk, length, map, slice_index_or, Err, Ok};
 ghost use Rattle.asm_text.specs.Lines.{Numbered};
 ghost use Rattle.asm_names.specs.Lines.{lines_of};
 ghost use Rattle.asm_statements.specs.Program.Spelled.{IsLineOfText};
@@ -16,7 +16,7 @@ ghost use Rattle.source_errors.specs.Private.State.{IsCounting, counted_in, why_
 use crate::counting::{Counting, count_lines};
 use crate::finding::{Finding, Findings, Known};
 use crate::judging::judge_lines;
-use crate::scanning::{append_without_made_circles, mended_text, put_scan_errors};
+use crate::scanning::{append_without_made, mended_text, put_scan_errors};
 use asm_macro::{Expanded, MacroFault, expand, source_part};
 use asm_module::Why;
 use asm_names::{NameFault, names_of};
@@ -131,6 +131,16 @@ fn stop_at(
     })
 }
 
+/// Answers `AllocError` if an expansion stops since memory ran out: that is no error of the source.
+fn known_cause(why: MacroFault) -> Result<(), AllocError>
+    ensures { IfOk result (λ done. why ≢ MacroFault.NoMemory) }
+{
+    match why {
+        MacroFault::NoMemory => Err(AllocError),
+        _ => Ok(()),
+    }
+}
+
 /// Appends the errors of other lines to the one at which an expansion stops, if the mended source can be expanded. Answers what is known
 /// of that source.
 fn put_others(
@@ -151,11 +161,13 @@ fn put_others(
                 findings: others,
                 known,
             } = errors_in(alloc, &mended, expanded, grow)?;
-            append_without_made_circles(alloc, lines, others, findings)?;
+            append_without_made(alloc, lines, others, findings)?;
             Ok(known)
         }
-        Err((_, MacroFault::NoMemory)) => Err(AllocError),
-        Err(_) => Ok(None),
+        Err((_, why)) => {
+            known_cause(why)?;
+            Ok(None)
+        }
     }
 }
 
@@ -167,7 +179,8 @@ fn stopped(
     why: MacroFault,
     grow: bool,
 ) -> Result<Findings, AllocError>
-    requires { IsExpanded text.now (Err (number, why)) }
+    requires stops { IsExpanded text.now (Err (number, why)) }
+    requires caused { why ≢ MacroFault.NoMemory }
     ensures { IfOk result (λ f. AreFindings grow text.now (map finding_of f.findings.items)) }
 {
     let lines = Lines::of(alloc, source_part(text))?;
@@ -198,7 +211,9 @@ pub fn find_errors(alloc: Global, text: &[u8], grow: bool) -> Result<Findings, A
 {
     match expand(alloc, text) {
         Ok(expanded) => errors_in(alloc, text, expanded, grow),
-        Err((_, MacroFault::NoMemory)) => Err(AllocError),
-        Err((number, why)) => stopped(alloc, text, number, why, grow),
+        Err((number, why)) => {
+            known_cause(why)?;
+            stopped(alloc, text, number, why, grow)
+        }
     }
 }

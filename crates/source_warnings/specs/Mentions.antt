@@ -1,5 +1,5 @@
 -- Where a source mentions a name, and which macros it defines.
-use Rattle.std.specs.Prelude.{ℕ, Bool, false, List, [], Option, Some, None, if◌then◌else◌, codes}
+use Rattle.std.specs.Prelude.{◌||◌, ℕ, Bool, false, List, [], Option, Some, None, if◌then◌else◌, codes}
 use Rattle.std.specs.List.{filter_map, flat_map}
 use Rattle.std.specs.Str.{str_eq_ignore_ascii_case}
 use Rattle.common.specs.Words.{upper}
@@ -19,9 +19,9 @@ written_lines text = numbered 1 (source_lines text)
 abbrev pub name_of_token : Lexeme → Option (List ℕ)
 name_of_token token = if is_name token then Some (upper token.text) else None
 
--- the word of the line is EXTRN
+-- the word of the line is EXTRN, or its other spelling EXTERNAL
 abbrev pub is_extrn : Head → Bool
-is_extrn (line.Word name) = str_eq_ignore_ascii_case name (codes "EXTRN")
+is_extrn (line.Word name) = str_eq_ignore_ascii_case name (codes "EXTRN") || str_eq_ignore_ascii_case name (codes "EXTERNAL")
 is_extrn _ = false
 
 -- The names that a line mentions: all after its word, wherever the line is, also in a macro or in a branch that is not taken. EXTRN mentions

@@ -18,12 +18,14 @@ use asm_text::Lines;
 use common::NameKey;
 use std::alloc::{AllocError, Global};
 
-/// Whether the word of a line is EXTRN.
+/// Whether the word of a line is EXTRN, or its other spelling EXTERNAL.
 fn is_extrn(head: Head<'_>) -> bool
     ensures { result ≡ is_extrn (head_seen head.entry) }
 {
     match head {
-        Head::Word(name) => name.eq_ignore_ascii_case(b"EXTRN"),
+        Head::Word(name) => {
+            name.eq_ignore_ascii_case(b"EXTRN") || name.eq_ignore_ascii_case(b"EXTERNAL")
+        }
         Head::Equ(_) | Head::Macro(_) | Head::Block(_) | Head::Nothing => false,
     }
 }

@@ -1,5 +1,5 @@
 -- What a parse without an error found for a command.
-use Rattle.std.proofs.Common.{◌≡◌, ◌∙◌, ◌<◌, ◌≤◌, ◌^◌, ◌⊎◌, arith, inl, inr, ℕ, Bool, true, false, List, [], Option, None, Some, is_some, codes, refl, sym, ap, subst}
+use Rattle.std.proofs.Common.{◌≡◌, ◌∙◌, ◌<◌, ◌≤◌, ◌^◌, ◌⊎◌, arith, inl, inr, ℕ, Bool, true, false, List, [], Option, None, Some, is_some, codes, length, map, ◌∷◌, refl, sym, ap, subst}
 use Rattle.std.specs.Prelude.{Err, IfSome, Ok, Result, option_and_then, slice_get}
 use Rattle.std.specs.Option.{option_map, option_map_or}
 use Rattle.std.specs.Prelude.{find}
@@ -7,6 +7,7 @@ use Rattle.std.specs.Str.{bytes_eq}
 use Rattle.std.specs.Str.Parse.{ParsesUnsigned}
 use Rattle.std.specs.Prelude.{Box}
 use Rattle.std.specs.Box.{box_value}
+use Rattle.clap.specs.Faults.{defaults_fault, walk_fault}
 use Rattle.clap.specs.Words.{App, HasMatchesOf, ReadsOne, Row, Text, all_of, built, fault_of, first_of, found_of, is_simple_and_free, one_of, rows_of, subcommand_name_of, subcommand_of, subcommand_rows, subcommand_rows_of}
 use Rattle.clap.specs.declared.parser.matches.ArgMatches.{ArgMatches}
 use Rattle.clap.specs.declared.parser.matches.ArgMatches.TheViews.{out-ArgMatches, out-SubCommand}
@@ -45,6 +46,13 @@ unmet_by a words m same kinds has is = (
     none : {Z : Type 0} (o : Option (Box SubCommand Z)) → None ≡ option_map (λ b. (out-SubCommand (box_value b)).name.now) o → subcommand_rows o ≡ None
     none None is = refl
     none (Some b) is = absurd (cc is)
+
+-- words that name no command, since there is at most one and the first is the program's name
+pub unnamed : {A : Type 0} (text : A → Text) (words : List A) → length words ≤ 1 → AreParsed (map text words) × (subcommand_of z80dev (map text words) ≡ None)
+unfolding walk_fault defaults_fault
+unnamed text [] few = (refl, refl)
+unnamed text (name ∷ []) few = (refl, refl)
+unnamed text (name ∷ word ∷ rest) few = absurd (omega (arith, few))
 
 pub has_text : (name id : Text) (rows : List Row) → each_named name (requires id) (built z80dev).subs ≡ true → AreFound name rows → is_some (first_of id rows) ≡ true
 has_text name id rows is met = required_value z80dev met.0 name id rows is met.2 met.1

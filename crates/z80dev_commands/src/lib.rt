@@ -29,6 +29,10 @@ pub fn commands<'a>(alloc: Global, words: &'a [String]) -> Result<Job<'a>, Error
     ensures refused { IfErr result (λ e. HasKind (fault_of z80dev (map (λ word. string_bytes word) words.now)) e ⊎ IsMiscounted (map (λ word. string_bytes word) words.now) (kind_of e)) }
     ensures taken { IfErr result (λ e. takes z80dev (map (λ word. string_bytes word) words.now) ≡ true → HasRightCount (map (λ word. string_bytes word) words.now) → kind_of e ≡ ErrorKind.OutOfMemory) }
 {
+    // Words without a command are accepted, whatever the commands are: so none is built for them.
+    if words.len() <= 1 {
+        return Ok(Job::Pipe);
+    }
     let matches = usage::z80dev(alloc)?.try_get_matches_from(words)?;
     let Some((name, found)) = matches.subcommand() else {
         return Ok(Job::Pipe);

@@ -1,46 +1,21 @@
 -- What `explain` answers for sources.
-use Rattle.std.specs.Prelude.{◌≡◌, ◌<◌, ℕ, ◌+◌, Bool, true, false, List, [], ◌∷◌, Result, Ok, Err, is_ok, length, map, nat_lt}
+use Rattle.std.specs.Prelude.{◌≡◌, ◌<◌, ℕ, ◌+◌, Bool, true, false, List, Result, Ok, Err, is_ok, length}
 use Rattle.std.specs.List.{AllZip, list_any, sum_by}
-use Rattle.source_warnings.specs.Calls.{AreCallWarnings}
-use Rattle.source_warnings.specs.Found.{AreSourceWarnings}
-use Rattle.source_warnings.specs.Warnings.{SourceWarning}
-use Rattle.z80dev_make.specs.Front.{CountsLines, front_lines}
-use Rattle.zmo_module.specs.Modules.{module_of}
-use Rattle.jump_warnings.specs.Warnings.{all_warnings}
+use Rattle.shared_lines.specs.Front.{CountsLines, front_lines}
 use Rattle.zlink.specs.Built.{IsBuilt}
-use Rattle.zlink.specs.Program.Faults.{first_fault}
 use Rattle.zlink.specs.declared.building.Built.{Built}
 use Rattle.zlink.specs.declared.fault.BuildFault.{BuildFault}
 use Rattle.zlink.specs.declared.fault.BuildFault.TheVariants as build
 use Rattle.zlink.specs.declared.source.Source.{Source}
-use Rattle.z80dev_make.specs.Build.{IsBehind}
-use Rattle.z80dev_make.specs.Shared.{UnlessFaulty}
-use Rattle.z80dev_make.specs.Warned.{found_unless, joined}
-use Rattle.z80dev_make.specs.declared.answer.SourceFile.{SourceFile}
-use Rattle.z80dev_make.specs.declared.front.Front.{Front}
-use Rattle.z80dev_explain.specs.declared.report.Explained.{Explained}
-use Rattle.z80dev_explain.specs.declared.report.Report.{Report}
-use Rattle.z80dev_explain.specs.Reports.{bears_name, is_report_of, link_name}
-
--- how many warnings there are about the jumps of a program
-abbrev pub warning_count : Built → ℕ
-warning_count built = let modules = map module_of built.modules.items in length (found_unless (first_fault modules) (all_warnings (joined modules)))
-
--- a warning is about a line after the first `before`
-abbrev pub is_behind : ℕ → SourceWarning → Bool
-is_behind before w = nat_lt before w.line.number
-
-abbrev pub one_if : Bool → ℕ
-one_if true = 1
-one_if false = 0
-
--- how many warnings about a source are about lines after the first `before`
-abbrev pub own_count : ℕ → List SourceWarning → ℕ
-own_count before found = sum_by (λ w. one_if (is_behind before w)) found
-
--- a source has this number of warnings in lines that come after the first `before`: about names, and about calls
-abbrev pub HasWarnings : ℕ → List ℕ → ℕ → Type 0
-HasWarnings before text count = (found calls : List SourceWarning) × AreSourceWarnings text found × AreCallWarnings text calls × (count ≡ own_count before found + own_count before calls)
+use Rattle.shared_lines.specs.Behind.{IsBehind}
+use Rattle.shared_lines.specs.Shared.{UnlessFaulty}
+use Rattle.shared_lines.specs.declared.front.SourceFile.{SourceFile}
+use Rattle.shared_lines.specs.declared.front.Front.{Front}
+use Rattle.report_texts.specs.declared.report.Report.{Report}
+use Rattle.report_texts.specs.Reports.{bears_name}
+use Rattle.link_errors.specs.Names.{link_name}
+use Rattle.program_warnings.specs.Counts.{HasWarnings, warning_count}
+use Rattle.z80dev_explain.specs.Reports.{is_report_of}
 
 -- Sources after a front have this number of warnings in their own lines.
 pub record AreWarned (front : Front) (behind : List Source) (count : ℕ) : Type 0 where

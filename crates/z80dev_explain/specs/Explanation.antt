@@ -1,12 +1,12 @@
 -- What the command `explain` says of sources.
 use Rattle.std.specs.Prelude.{◌≡◌, ℕ, Bool, true, false, ◌==◌, List, [], ◌++◌, Option, None, Some, codes, decimal, if◌then◌else◌, length}
-use Rattle.z80dev_make.specs.declared.answer.SourceFile.{SourceFile}
-use Rattle.z80dev_make.specs.declared.front.Front.{Front}
+use Rattle.shared_lines.specs.declared.front.SourceFile.{SourceFile}
+use Rattle.shared_lines.specs.declared.front.Front.{Front}
 use Rattle.z80dev_explain.specs.Explained.{IsExplained}
-use Rattle.z80dev_explain.specs.Printed.{IsPrinted}
+use Rattle.report_texts.specs.Printed.{IsPrinted}
 use Rattle.z80dev_explain.specs.declared.explaining.Asked.{Asked}
-use Rattle.z80dev_explain.specs.declared.printing.Form.{Form}
-use Rattle.z80dev_explain.specs.declared.report.Report.{Report}
+use Rattle.report_texts.specs.declared.printing.Form.{Form}
+use Rattle.report_texts.specs.declared.report.Report.{Report}
 
 -- there is a program, and nothing to report
 abbrev pub IsFine : Bool → List Report → Type 0

@@ -1,4 +1,3 @@
 pub mod Reports
-pub mod Printed
 pub mod Explained
 pub mod Explanation

@@ -4,21 +4,19 @@ ghost use Rattle.std.specs.Prelude.{◌≡◌, IfOk, OnOk, true};
 ghost use Rattle.std.specs.List.{list_any};
 ghost use Rattle.z80dev_explain.specs.Reports.{is_report_of};
 
-use crate::cutting::{macro_in, tokens_of};
-use crate::grouping::{Group, MOST_OTHERS, grouped};
-use crate::placing::Site;
-use crate::report::{Report, Severity, Where};
-use crate::sources::Sources;
-use crate::written::{Traces, traced};
 use asm_line::{BlockWord, Head, form_of, names};
 use asm_macro::MacroFault;
 use asm_module::{AsmFault, Why};
 use asm_scan::{ScanFault, tokens};
 use common::NameKey;
 use error_messages::{Before, Note, Place, SourceLines, empty_parameter, message, opener_of};
+use report_texts::{Report, Severity, Where};
+use shared_lines::why_name;
 use source_errors::{Finding, Findings, Known, find_errors};
 use std::alloc::{AllocError, Global};
-use z80dev_make::why_name;
+use written_lines::{
+    Group, MOST_OTHERS, Site, Sources, Traces, grouped, macro_in, tokens_of, traced,
+};
 
 /// A source with errors.
 #[derive(Drop)]

@@ -2,28 +2,28 @@
 
 ghost use Rattle.std.specs.Prelude.{◌≡◌, ◌<◌, ◌+◌, ℕ, All, IfOk, List, [], false, length, map, option_copied, true};
 ghost use Rattle.std.specs.List.{AllZip, list_any, sum_by};
-ghost use Rattle.z80dev_make.specs.Front.{CountsLines, front_lines};
+ghost use Rattle.shared_lines.specs.Front.{CountsLines, front_lines};
 ghost use Rattle.zmo_module.specs.Modules.{module_of};
 ghost use Rattle.zmo_module.specs.Rules.{IsModule};
-ghost use Rattle.z80dev_make.specs.Build.{IsBehind};
-ghost use Rattle.z80dev_explain.specs.Explained.{HasWarnings, IsExplained, IsExplainedBehind, warning_count};
-ghost use Rattle.z80dev_explain.specs.Reports.{is_in_line, is_error, bears_name, is_report_of, link_name};
+ghost use Rattle.shared_lines.specs.Behind.{IsBehind};
+ghost use Rattle.report_texts.specs.Reports.{is_in_line, is_error, bears_name};
+ghost use Rattle.link_errors.specs.Names.{link_name};
+ghost use Rattle.program_warnings.specs.Counts.{HasWarnings, warning_count};
+ghost use Rattle.z80dev_explain.specs.Explained.{IsExplained, IsExplainedBehind};
+ghost use Rattle.z80dev_explain.specs.Reports.{is_report_of};
 
 use crate::errors::{put_error, put_errors};
-use crate::linking::{name_of, put_link_errors, put_plain};
-use crate::longs::long_jumps_of;
-use crate::mistakes::put_mistakes;
-use crate::printing::{Form, MOST_REPORTS};
-use crate::report::{Explained, Report, Severity, Where};
 use crate::shared::{put_told, put_unshared};
-use crate::sources::{Sources, lines_of};
-use crate::warned::warnings_of;
 use asm_module::{AsmFault, Lines, Module, assemble_with};
-use std::alloc::{AllocError, Global};
-use z80dev_make::{
+use link_errors::{name_of, put_link_errors, put_plain};
+use program_warnings::{long_jumps_of, put_mistakes, warnings_of};
+use report_texts::{Form, MOST_REPORTS, Report, Severity, Where};
+use shared_lines::{
     Front, Refusal, SourceFile, Told, fault_of_front, front_lines, front_text, sources_behind,
     texts_behind, why_name,
 };
+use std::alloc::{AllocError, Global};
+use written_lines::{Sources, lines_of};
 use zlink::{BuildFault, Built, LinkFault, Source, build_with};
 
 /// What is asked about sources.
@@ -35,6 +35,17 @@ pub struct Asked {
     pub jumps: bool,
     /// How the answer is printed.
     pub form: Form,
+}
+
+/// What is said of sources.
+#[derive(Debug, Drop)]
+pub struct Explained<'a> {
+    /// Whether the sources have a program.
+    pub has_program: bool,
+    /// Their errors or warnings, in the order of the sources and their lines.
+    pub reports: Vec<Report<'a>>,
+    /// Notes about its long jumps, if they are wanted. Those come first that are the fewest bytes too long.
+    pub longs: Vec<Report<'a>>,
 }
 
 /// Whether a place is in this line of the source with this number.

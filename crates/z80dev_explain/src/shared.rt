@@ -2,12 +2,12 @@
 
 ghost use Rattle.std.specs.Prelude.{◌<◌, OnOk, length};
 
-use crate::report::{Report, Severity};
-use crate::sources::Sources;
 use asm_module::{SourceLine, read_source};
 use error_messages::Note;
+use report_texts::{Report, Severity};
+use shared_lines::{Told, is_shared};
 use std::alloc::{AllocError, Global};
-use z80dev_make::{Told, is_shared};
+use written_lines::Sources;
 
 /// Answers the report of a line that a shared file may not have.
 fn unshared<'f>(

@@ -4,11 +4,10 @@ ghost use Rattle.std.specs.Prelude.{◌≡◌, IfOk, None, string_bytes};
 ghost use Rattle.std.specs.Option.{option_map};
 ghost use Rattle.z80dev_explain.specs.Explanation.{count_text, IsExplanation, IsFine, summary_of};
 
-use crate::explaining::{Asked, explain};
-use crate::printing::print_reports;
-use crate::report::{Explained, Report};
+use crate::explaining::{Asked, Explained, explain};
+use report_texts::{Report, print_reports};
+use shared_lines::{Front, SourceFile};
 use std::alloc::{AllocError, Global};
-use z80dev_make::{Front, SourceFile};
 
 /// What is said of sources.
 #[derive(Debug, Drop)]

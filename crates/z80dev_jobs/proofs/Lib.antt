@@ -1,20 +1,3 @@
-pub mod Carried
-pub mod Claimed
-pub mod Clear
-pub mod Debugged
-pub mod Defined
-pub mod Disassembled
-pub mod Given
-pub mod Images
-pub mod Last_point
-pub mod Lined
-pub mod Newest
-pub mod One_by_one
 pub mod One_word
-pub mod Overwritten
-pub mod Ran
 pub mod Refused
 pub mod Reported
-pub mod Stored
-pub mod Told
-mod Seated

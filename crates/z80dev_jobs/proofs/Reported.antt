@@ -5,19 +5,18 @@ use Rattle.streams.specs.Stream.{Stream}
 use Rattle.z80dev_finish.specs.End.{end_status}
 use Rattle.z80dev_finish.specs.Files.{Folder}
 use Rattle.z80dev_finish.specs.declared.end.End.{End}
-use Rattle.z80dev_jobs.specs.Command.{ReportsLine, TellsWith}
-use Rattle.z80dev_jobs.specs.Making.{Effect, effect_of}
-use Rattle.z80dev_jobs.specs.Private.Steps.{EndsWith, end_in, line_in}
-use Rattle.z80dev_jobs.specs.Reading.{Reader}
-use Rattle.z80dev_jobs.specs.World.{world_of}
+use Rattle.job_steps.specs.Reporting.{ReportsLine, TellsWith}
+use Rattle.job_steps.specs.Ending.{Effect, effect_of, EndsWith, end_in, line_put}
+use Rattle.job_steps.specs.Reading.{Reader}
+use Rattle.job_steps.specs.World.{world_of}
 
-of_ends : (Is : Option (List ℕ) → End → Type 0) (result : Result (Option (String Global)) End) → EndsWith Is result → Is (line_in result) (end_in result)
+of_ends : (Is : Option (List ℕ) → End → Type 0) (result : Result (Option (String Global)) End) → EndsWith Is result → Is (line_put result) (end_in result)
 of_ends Is (Ok line) is = is
 of_ends Is (Err e) is = is
 
 -- the line of a job, or its end, is reported
 pub reported : (Ends : Effect → Option (List ℕ) → End → Type 0) (old new : Folder) (input : Reader) (before after errors told : Stream) (result : Result (Option (String Global)) End) (status : ℕ)
-    → EndsWith (Ends (effect_of old new before after)) result → status ≡ end_status (end_in result) → TellsWith (line_in result) (end_in result) errors told
+    → EndsWith (Ends (effect_of old new before after)) result → status ≡ end_status (end_in result) → TellsWith (line_put result) (end_in result) errors told
     → ReportsLine Ends (world_of old input before errors) (world_of new input after told) status
 reported Ends old new input before after errors told result status ends is tells =
-    (line_in result, end_in result, of_ends (Ends (effect_of old new before after)) result ends, is, tells, refl)
+    (line_put result, end_in result, of_ends (Ends (effect_of old new before after)) result ends, is, tells, refl)

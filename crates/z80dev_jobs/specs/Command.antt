@@ -1,5 +1,5 @@
 -- What the command `z80dev` does, whatever its words.
-use Rattle.std.specs.Prelude.{◌≡◌, ◌≢◌, ◌⊎◌, ℕ, true, List, ◌++◌, Option, None, Some, Result, codes, decimal}
+use Rattle.std.specs.Prelude.{◌≡◌, ◌≢◌, ◌⊎◌, ℕ, true, List, ◌++◌, Result, codes, decimal}
 use Rattle.clap.specs.Words.{IsAmong, fault_of, takes}
 use Rattle.clap.specs.declared.error.kind.ErrorKind.{ErrorKind}
 use Rattle.clap.specs.declared.error.kind.ErrorKind.TheVariants as kind
@@ -11,65 +11,19 @@ use Rattle.z80dev.specs.declared.fault.Fault.{Fault}
 use Rattle.z80dev_commands.specs.Commands.{IsJob, IsMiscounted, z80dev}
 use Rattle.z80dev_commands.specs.declared.job.Job.{Job}
 use Rattle.z80dev_commands.specs.declared.job.Job.TheVariants.{Pipe, Asm, Link, Build, Explain, Check, Dis, Disk, Run, Debug, Play}
-use Rattle.z80dev_finish.specs.End.{IsPut, Tells, TellsOf, end_status}
-use Rattle.z80dev_finish.specs.declared.end.End.{End}
+use Rattle.z80dev_finish.specs.End.{IsPut, Tells, TellsOf}
 use Rattle.z80dev_finish.specs.declared.end.End.TheVariants as end
-use Rattle.z80dev_jobs.specs.Disks.{DiskJobEnds, TellsLine}
-use Rattle.z80dev_jobs.specs.Making.{AsmEnds, BuildEnds, CheckEnds, DisEnds, Effect, LinkEnds, PutsLines, effect_of}
-use Rattle.z80dev_jobs.specs.Debugging.{DebugEnds}
+use Rattle.disk_jobs.specs.Disks.{DiskJobEnds}
+use Rattle.build_jobs.specs.Making.{AsmEnds, BuildEnds, CheckEnds, DisEnds, LinkEnds}
+use Rattle.run_jobs.specs.Debugging.{DebugEnds}
 use Rattle.z80dev_jobs.specs.Explaining.{ExplainEnds}
-use Rattle.z80dev_jobs.specs.Playing.{PlayEndsWith, bad_in_play}
-use Rattle.z80dev_jobs.specs.Running.{RunEnds}
+use Rattle.run_jobs.specs.Playing.{PlayEndsWith, bad_in_play}
+use Rattle.run_jobs.specs.Running.{RunEnds}
 use Rattle.z80dev_jobs.specs.Words.{AreTexts, IsNotText}
-use Rattle.z80dev_jobs.specs.Values.{bad_define, bad_in_build, bad_in_explain, bad_symbols}
-use Rattle.z80dev_jobs.specs.World.{World}
-
-abbrev pub effect : World → World → Effect
-effect old new = effect_of old.folder new.folder old.output new.output
-
--- A job ends, its end is reported on standard error, and standard input is not read.
-abbrev pub Reports : (Effect → End → Type 0) → World → World → ℕ → Type 0
-Reports Ends old new status = (e : End) × Ends (effect old new) e × (status ≡ end_status e) × Tells e old.errors new.errors × (new.input ≡ old.input)
-
--- the line of an end; or the lines of a job at which all is done: how many jumps are short and long, or warnings
-abbrev pub TellsWith : Option (List ℕ) → End → Stream → Stream → Type 0
-TellsWith line end.Done old new = TellsLine line old new
-TellsWith line e old new = Tells e old new
-
-abbrev pub ReportsLine : (Effect → Option (List ℕ) → End → Type 0) → World → World → ℕ → Type 0
-ReportsLine Ends old new status = (line : Option (List ℕ)) × (e : End) × Ends (effect old new) line e × (status ≡ end_status e) × TellsWith line e old.errors new.errors
-    × (new.input ≡ old.input)
-
--- The lines of a job at which all is done, or its end.
-abbrev pub TellsAtEnd : List ℕ → End → Stream → Stream → Type 0
-TellsAtEnd lines end.Done old new = PutsLines lines old new
-TellsAtEnd lines e old new = Tells e old new
-
-abbrev pub ReportsLines : (Effect → List ℕ → End → Type 0) → World → World → ℕ → Type 0
-ReportsLines Ends old new status = (lines : List ℕ) × (e : End) × Ends (effect old new) lines e × (status ≡ end_status e) × TellsAtEnd lines e old.errors new.errors
-    × (new.input ≡ old.input)
-
--- No file is touched, and standard input is not read
-pub record Untouched (old new : World) : Type 0 where
-  pub folder : new.folder ≡ old.folder
-  pub input : new.input ≡ old.input
-
--- Memory ran out before the job began.
-abbrev pub LacksMemory : Stream → Stream → Stream → Stream → ℕ → Type 0
-LacksMemory before after old new status = (status ≡ 1) × (after ≡ before) × Tells end.NoMemory old new
-
--- The value of an option is refused with this text, as wrong words are.
-abbrev pub RefusesValue : List ℕ → Stream → Stream → Stream → Stream → ℕ → Type 0
-RefusesValue why before after old new status = (status ≡ 2) × (after ≡ before) × IsPut old new (error_line why)
-
--- The first value that is wrong is refused. If there is none, the job is done.
-abbrev pub UnlessBad : Option (List ℕ) → (World → World → ℕ → Type 0) → World → World → ℕ → Type 0
-UnlessBad None Does old new status = Does old new status
-UnlessBad (Some why) Does old new status = Untouched old new × RefusesValue why old.output new.output old.errors new.errors status
-
--- The values are looked at before any file is read. Memory may run out for that.
-abbrev pub Judging : Option (List ℕ) → (World → World → ℕ → Type 0) → World → World → ℕ → Type 0
-Judging why Does old new status = UnlessBad why Does old new status ⊎ (Untouched old new × LacksMemory old.output new.output old.errors new.errors status)
+use Rattle.build_jobs.specs.Values.{bad_define, bad_in_build, bad_symbols}
+use Rattle.z80dev_jobs.specs.Values.{bad_in_explain}
+use Rattle.job_steps.specs.World.{World}
+use Rattle.job_steps.specs.Reporting.{Reports, ReportsLine, ReportsLines, Untouched, LacksMemory, Judging}
 
 -- Without words: the file of the source text on standard input is printed in hexadecimal.
 abbrev pub PipeEnds : World → World → ℕ → Type 0

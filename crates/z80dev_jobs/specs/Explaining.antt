@@ -7,13 +7,14 @@ use Rattle.streams.specs.Writing.{PutsAll, PutsFront}
 use Rattle.z80dev_commands.specs.declared.job.Explain.{Explain}
 use Rattle.z80dev_explain.specs.Explanation.{IsExplanation}
 use Rattle.z80dev_explain.specs.declared.explaining.Asked.{Asked}
-use Rattle.z80dev_explain.specs.declared.printing.Form.{Form}
-use Rattle.z80dev_explain.specs.declared.printing.Form.TheVariants as form
+use Rattle.report_texts.specs.declared.printing.Form.{Form}
+use Rattle.report_texts.specs.declared.printing.Form.TheVariants as form
 use Rattle.z80dev_finish.specs.declared.end.End.{End}
 use Rattle.z80dev_finish.specs.declared.end.End.TheVariants as end
-use Rattle.z80dev_make.specs.declared.answer.SourceFile.{SourceFile}
-use Rattle.z80dev_make.specs.declared.front.Front.{Front}
-use Rattle.z80dev_jobs.specs.Making.{AreFiles, Effect, IsFront, WithAll, shared_paths}
+use Rattle.shared_lines.specs.declared.front.SourceFile.{SourceFile}
+use Rattle.shared_lines.specs.declared.front.Front.{Front}
+use Rattle.build_jobs.specs.Making.{AreFiles, IsFront, shared_paths}
+use Rattle.job_steps.specs.Ending.{Effect, WithAll}
 
 -- Exactly this text is printed. Then the command is refused with the summary; without one, all is done.
 abbrev pub PrintsWith : List ℕ → Option (List ℕ) → Stream → Stream → End → Type 0

@@ -1,16 +1,5 @@
-pub mod Reading
-pub mod World
-pub mod Outputs
-pub mod Products
-pub mod Making
 pub mod Explaining
-pub mod Disks
-pub mod Telling
-pub mod Running
-pub mod Debugging
 pub mod Values
 pub mod Words
 pub mod Command
-pub mod Memory
 pub mod Private
-pub mod Playing

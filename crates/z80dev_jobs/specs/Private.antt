@@ -1,7 +1,2 @@
 -- Only private contracts cite these definitions, so a reviewer may skip them.
 pub mod Steps
-pub mod Kept
-pub mod Names
-pub mod Images
-pub mod Telling
-pub mod Debugging

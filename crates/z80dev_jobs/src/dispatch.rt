@@ -3,45 +3,29 @@
 ghost use Rattle.std.specs.Prelude.{◌≡◌, ◌≤◌, false, map};
 ghost use Rattle.debugger.specs.declared.conversation.TheConstants.{MOST_READS};
 ghost use Rattle.clap.specs.Words.{kind_of};
-ghost use Rattle.z80dev_finish.specs.End.{Tells, end_status};
-ghost use Rattle.z80dev_jobs.specs.Command.{CommandEnds, JobEnds, Judging, Reports, ReportsLines, TellsAtEnd, TellsWith};
+ghost use Rattle.z80dev_jobs.specs.Command.{CommandEnds, JobEnds};
+ghost use Rattle.job_steps.specs.Reporting.{Judging, Reports};
 ghost use Rattle.z80dev_jobs.specs.Explaining.{ExplainEnds};
-ghost use Rattle.z80dev_jobs.specs.Making.{AsmEnds, BuildEnds, LinkEnds, ended};
-ghost use Rattle.z80dev_jobs.specs.Private.Steps.{HasJobUser, RefusesError, RefusesFault, end_after, end_in, line_in, lines_after};
-ghost use Rattle.z80dev_jobs.specs.Running.{RunEnds};
-ghost use Rattle.z80dev_jobs.specs.Reading.{Reader, reader_of};
-ghost use Rattle.z80dev_jobs.specs.Values.{bad_define, bad_in_build, bad_in_explain, bad_symbols};
-ghost use Rattle.z80dev_jobs.specs.World.{world_of};
+ghost use Rattle.job_steps.specs.Ending.{ended};
+ghost use Rattle.z80dev_jobs.specs.Private.Steps.{HasJobUser, RefusesError, RefusesFault};
+ghost use Rattle.job_steps.specs.Reading.{Reader, reader_of};
+ghost use Rattle.z80dev_jobs.specs.Values.{bad_in_explain};
+ghost use Rattle.job_steps.specs.World.{world_of};
 
-use crate::debugging::debug_job;
-use crate::disassembling::dis_file;
-use crate::disks::do_on_disk;
 use crate::explaining::explain_files;
-use crate::host::{Ended, Host};
-use crate::making::{asm_file, build_files, check_files, link_files};
-use crate::playing::play_job;
-use crate::running::{STEPS, end_run, inputs_of, prepare, put_lines};
-use crate::telling::{refuse_telling, run_telling};
 use crate::tips::tip;
-use crate::values::{bad_define, bad_in_build, bad_in_explain, bad_symbols, refuse_value};
+use crate::values::bad_in_explain;
 use crate::words::{WordsFault, texts_of};
+use build_jobs::{asm_job, build_job, check_files, dis_file, link_job};
 use clap::Error;
 use clap::error::ErrorKind;
+use disk_jobs::do_on_disk;
+use job_steps::{Ended, Host, refuse_value, report_any, report_line};
+use run_jobs::{debug_job, play_job, run_job};
 use std::alloc::Global;
 use streams::{print, put, tell};
 use z80dev::{DONE, End, Files, Input, Job, Sink, USAGE, commands, pipe, report};
-use z80dev_commands::{Asm, Build, Explain, Link, Run};
-use z80dev_run::Ran;
-
-/// Reports an end, however a function passed it on, and gives the exit status.
-pub(crate) fn report_any<E: Sink>(end: Result<End<'_>, End<'_>>, errors: &mut E) -> u8
-    ensures status { result ≡ end_status (ended end.entry) }
-    ensures told { Tells (ended end.entry) (E.stream errors.old) (E.stream errors.new) }
-{
-    match end {
-        Ok(end) | Err(end) => report(&end, errors),
-    }
-}
+use z80dev_commands::Explain;
 
 /// Reports why the words are not known, and gives the exit status.
 fn refuse_fault<E: Sink>(alloc: Global, fault: WordsFault, errors: &mut E) -> u8
@@ -88,83 +72,6 @@ fn refuse_words<W: Sink, E: Sink>(
     }
 }
 
-/// Reports how a command ended; if all is done, writes its line on standard error, if it has one. Gives the exit status.
-fn report_line<E: Sink>(ended: Result<Option<String>, End<'_>>, errors: &mut E) -> u8
-    ensures status { result ≡ end_status (end_in ended.entry) }
-    ensures told { TellsWith (line_in ended.entry) (end_in ended.entry) (E.stream errors.old) (E.stream errors.new) }
-{
-    match ended {
-        Ok(Some(line)) => {
-            let _ = put(errors, line.as_bytes());
-            DONE
-        }
-        Ok(None) => DONE,
-        Err(end) => report(&end, errors),
-    }
-}
-
-/// Reports how a command ended; if all is done, writes its lines on standard error, if there are some. Gives the exit status.
-fn report_lines<E: Sink>(ended: Result<Vec<u8>, End<'_>>, errors: &mut E) -> u8
-    ensures status { result ≡ end_status (end_after ended.entry) }
-    ensures told { TellsAtEnd (lines_after ended.entry) (end_after ended.entry) (E.stream errors.old) (E.stream errors.new) }
-{
-    match ended {
-        Ok(lines) => {
-            put_lines(&lines, errors);
-            DONE
-        }
-        Err(end) => report(&end, errors),
-    }
-}
-
-/// Assembles a source, unless a definition is refused, and gives the exit status.
-fn asm_job<F: Files, W: Sink, E: Sink>(
-    alloc: Global,
-    job: &Asm<'_>,
-    files: &mut F,
-    output: &mut W,
-    errors: &mut E,
-) -> u8
-    ensures { (input : Reader) → Judging (bad_define job.now.shared) (ReportsLines (AsmEnds job.now)) (world_of (F.folder files.old) input (W.stream output.old) (E.stream errors.old)) (world_of (F.folder files.new) input (W.stream output.new) (E.stream errors.new)) result }
-{
-    if let Some(status) = refuse_value(bad_define(alloc, &job.shared), errors) {
-        return status;
-    }
-    report_lines(asm_file(alloc, job, files, output), errors)
-}
-
-/// Links a program, unless a value is refused, and gives the exit status.
-fn link_job<F: Files, W: Sink, E: Sink>(
-    alloc: Global,
-    job: &Link<'_>,
-    files: &mut F,
-    output: &mut W,
-    errors: &mut E,
-) -> u8
-    ensures { (input : Reader) → Judging (bad_symbols job.now.symbols) (Reports (LinkEnds job.now)) (world_of (F.folder files.old) input (W.stream output.old) (E.stream errors.old)) (world_of (F.folder files.new) input (W.stream output.new) (E.stream errors.new)) result }
-{
-    if let Some(status) = refuse_value(bad_symbols(alloc, job.symbols), errors) {
-        return status;
-    }
-    report_any(link_files(alloc, job, files, output), errors)
-}
-
-/// Builds a program, unless a value is refused, and gives the exit status.
-fn build_job<F: Files, W: Sink, E: Sink>(
-    alloc: Global,
-    job: &Build<'_>,
-    files: &mut F,
-    output: &mut W,
-    errors: &mut E,
-) -> u8
-    ensures { (input : Reader) → Judging (bad_in_build job.now) (ReportsLines (BuildEnds job.now)) (world_of (F.folder files.old) input (W.stream output.old) (E.stream errors.old)) (world_of (F.folder files.new) input (W.stream output.new) (E.stream errors.new)) result }
-{
-    if let Some(status) = refuse_value(bad_in_build(alloc, job), errors) {
-        return status;
-    }
-    report_lines(build_files(alloc, job, files, output), errors)
-}
-
 /// Explains sources, unless a value is refused, and gives the exit status.
 fn explain_job<F: Files, W: Sink, E: Sink>(
     alloc: Global,
@@ -183,66 +90,6 @@ fn explain_job<F: Files, W: Sink, E: Sink>(
         explain_files(alloc, job, is_terminal, files, output),
         errors,
     )
-}
-
-/// Runs a program, and gives the exit status with what the command worked on.
-fn run_job<F: Files, I: Input, W: Sink + Drop, E: Sink>(
-    alloc: Global,
-    job: &Run<'_>,
-    mut host: Host<F, I, W, E>,
-) -> Ended<F, I, W, E>
-    requires sound { I.failed host.input ≡ false }
-    requires unread { I.reads host.input ≡ 0 }
-    requires calm { I.interruptions host.input ≡ 0 }
-    ensures ends { RunEnds job.now (world_of (F.folder host.files) (reader_of (I.remaining host.input) (I.failed host.input) (I.reads host.input) (I.interruptions host.input)) (W.stream host.output) (E.stream host.errors)) (world_of (F.folder result.host.files) (reader_of (I.remaining result.host.input) (I.failed result.host.input) (I.reads result.host.input) (I.interruptions result.host.input)) (W.stream result.host.output) (E.stream result.host.errors)) result.status }
-    ensures reads { I.reads result.host.input ≤ MOST_READS }
-{
-    if let Err(end) = refuse_telling(alloc, job) {
-        let status = report(&end, &mut host.errors);
-        return Ended { status, host };
-    }
-    let inputs = match inputs_of(alloc, job, &mut host.files, &mut host.input) {
-        Ok(inputs) => inputs,
-        Err(end) => {
-            let status = report(&end, &mut host.errors);
-            return Ended { status, host };
-        }
-    };
-    let (ready, labels) = match prepare(alloc, &inputs, &job.words) {
-        Ok(prepared) => prepared,
-        Err(end) => {
-            let status = report(&end, &mut host.errors);
-            return Ended { status, host };
-        }
-    };
-    let Host {
-        mut files,
-        input,
-        output,
-        mut errors,
-        is_terminal,
-    } = host;
-    let steps = job.steps.unwrap_or(STEPS);
-    let listing = inputs.list.as_deref();
-    let (mut ran, told) = run_telling(alloc, ready, output, steps, job.telling, &labels, listing);
-    let status = end_run(
-        alloc,
-        job,
-        &inputs,
-        &mut ran,
-        &told,
-        &mut files,
-        &mut errors,
-    );
-    let Ran { output, .. } = ran;
-    let host = Host {
-        files,
-        input,
-        output,
-        errors,
-        is_terminal,
-    };
-    Ended { status, host }
 }
 
 /// Does a job, and gives the exit status with what the command worked on.

@@ -2,10 +2,10 @@
 
 ghost use Rattle.std.specs.Prelude.{◌≡◌, length, map, option_map, string_bytes};
 ghost use Rattle.z80dev_jobs.specs.Explaining.{ExplainEnds, Explains, IsAsked, IsFormFor, PrintsWith};
-ghost use Rattle.z80dev_jobs.specs.Making.{effect_of, ended};
+ghost use Rattle.job_steps.specs.Ending.{effect_of, ended};
 
-use crate::making::sources_of;
-use crate::reading::read_all;
+use build_jobs::sources_of;
+use job_steps::read_all;
 use std::alloc::Global;
 use streams::print;
 use z80dev::{End, Files, Front, Sink};

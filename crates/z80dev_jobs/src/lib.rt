@@ -4,25 +4,12 @@
 //! [`MemoryFiles`] keeps files in memory, and [`FailingFiles`] lets some calls of files fail.
 #![tactic(auto)]
 
-mod debugging;
-mod disassembling;
-mod disks;
 mod dispatch;
 mod explaining;
-mod failing;
-mod host;
-mod making;
-mod memory;
-mod outputs;
-mod playing;
-mod reading;
-mod running;
-mod telling;
 mod tips;
 mod values;
 mod words;
 
 pub use dispatch::command;
-pub use failing::{FailingFiles, Failure};
-pub use host::{Ended, Host};
-pub use memory::{MemoryFiles, Written};
+pub use job_steps::{Ended, Host};
+pub use memory_files::{FailingFiles, Failure, MemoryFiles, Written};

@@ -16,8 +16,8 @@ use Rattle.zlink.specs.declared.source.Source.{Source}
 use Rattle.z80dev_finish.specs.Answers.{Answer, MemoryAside, nothing}
 use Rattle.z80dev_finish.specs.declared.answer.Kind.{Kind}
 use Rattle.z80dev_finish.specs.declared.answer.Kind.TheVariants as kind
-use Rattle.z80dev_make.specs.declared.answer.SourceFile.{SourceFile}
-use Rattle.z80dev_make.specs.declared.front.Front.{Front}
+use Rattle.shared_lines.specs.declared.front.SourceFile.{SourceFile}
+use Rattle.shared_lines.specs.declared.front.Front.{Front}
 use Rattle.z80dev_make.specs.declared.jumps.Jumps.{Jumps}
 use Rattle.program_map.specs.declared.form.SymbolForm.{SymbolForm}
 use Rattle.z80dev_make.specs.Answers.{HasKinds, kinds_of, no_program}

@@ -10,9 +10,9 @@ use Rattle.zlink.specs.declared.program.joining.Links.{Links}
 use Rattle.asm_module.specs.Assembled.{Assembled}
 use Rattle.asm_module.specs.declared.assembling.Lines as listing
 use mathlib.Core.List.{map-map}
-use Rattle.z80dev_make.specs.declared.answer.SourceFile.{SourceFile}
-use Rattle.z80dev_make.specs.declared.front.Front.{Front}
-use Rattle.z80dev_make.specs.Front.{earlier, front_lines}
+use Rattle.shared_lines.specs.declared.front.SourceFile.{SourceFile}
+use Rattle.shared_lines.specs.declared.front.Front.{Front}
+use Rattle.shared_lines.specs.Front.{earlier, front_lines}
 use Rattle.z80dev_make.specs.Warned.{built_source, source_shown}
 use Rattle.z80dev_make.specs.Private.Shown.{member_with, shown_in}
 

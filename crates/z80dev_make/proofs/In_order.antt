@@ -1,26 +1,13 @@
--- Object files that are read, and sources that are named, one by one.
-use Rattle.std.proofs.Common.{◌≡◌, ◌+◌, ◌<◌, ℕ, List, [], ◌∷◌, ◌++◌, Err, length, get_or, take, sym, ap, subst, ◌∙◌}
-use Rattle.std.specs.List.{AllZip, flat_map}
-use Rattle.std.proofs.lemmas.Grind.{flat_map-append}
-use Rattle.std.proofs.lemmas.List.{append-nil, take_more}
+-- Object files that are read, one by one.
+use Rattle.std.proofs.Common.{◌<◌, ℕ, List, Err, length, get_or, take}
+use Rattle.std.specs.List.{AllZip}
 use Rattle.std.proofs.lemmas.Option.{slice_get-get_or}
-use Rattle.zlink.proofs.Carried.{zipped-append}
 use Rattle.zmo_module.specs.Modules.{Module}
 use Rattle.zmo_object.specs.declared.fault.ObjectFault.{ObjectFault}
 use Rattle.zmo_object.specs.declared.fault.ObjectFault.TheVariants as object
 use Rattle.zmo_object.specs.Reading.{AnswersAsRead, read_of}
 use Rattle.z80dev_make.specs.Link.{IsObject}
 use Rattle.z80dev_make.specs.Private.Steps.{AreRead}
-
--- What holds of the first elements and of the next one holds of one more.
-pub one_more : {A B : Type 0} (K : A → B → Type 0) (xs : List A) (k : ℕ) (d : A) (ys all : List B) (y : B) → k < length xs → AllZip K (take k xs) ys → K (get_or xs k d) y → all ≡ ys ++ y ∷ [] → AllZip K (take (k + 1) xs) all
-one_more K xs k d ys all y lt so_far this is =
-    subst (λ front. AllZip K front all) (sym (take_more xs k d lt))
-    (subst (AllZip K (take k xs ++ get_or xs k d ∷ [])) (sym is) (zipped-append K (take k xs) (get_or xs k d ∷ []) ys (y ∷ []) so_far (this, tt)))
-
--- what one more element adds
-pub brought : {A : Type 0} (f : A → List ℕ) (xs : List A) (k : ℕ) (d : A) → k < length xs → flat_map f (take (k + 1) xs) ≡ flat_map f (take k xs) ++ f (get_or xs k d)
-brought f xs k d lt = ap (flat_map f) (take_more xs k d lt) ∙ flat_map-append f (take k xs) (get_or xs k d ∷ []) ∙ ap (λ l. flat_map f (take k xs) ++ l) (append-nil (f (get_or xs k d)))
 
 -- The object file that cannot be read is the first such one.
 pub stops : (xs : List (List ℕ)) (k : ℕ) (d : List ℕ) (before : List Module) (fault : ObjectFault) → k < length xs → AllZip IsObject (take k xs) before → AnswersAsRead (Err fault) (read_of (get_or xs k d)) → AreRead xs (Err fault)

@@ -1,9 +1,4 @@
-pub mod Faulty
-pub mod Lines
-pub mod Named
 pub mod In_order
-pub mod Numbers
-pub mod Refused
 pub mod Written
 pub mod Held
 pub mod Warned_program

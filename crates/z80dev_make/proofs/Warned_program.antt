@@ -9,10 +9,10 @@ use Rattle.zlink.specs.Built.{IsBuilt}
 use Rattle.zlink.specs.Sources.{AreAssembled, Assembly}
 use Rattle.zlink.specs.declared.building.Built.{Built}
 use Rattle.zlink.specs.declared.source.Source.{Source}
-use Rattle.z80dev_make.specs.Build.{IsBehind}
+use Rattle.shared_lines.specs.Behind.{IsBehind}
 use Rattle.z80dev_make.specs.Warned.{IsAssembledBehind, IsWarnedProgram, build_warnings}
-use Rattle.z80dev_make.specs.declared.answer.SourceFile.{SourceFile}
-use Rattle.z80dev_make.specs.declared.front.Front.{Front}
+use Rattle.shared_lines.specs.declared.front.SourceFile.{SourceFile}
+use Rattle.shared_lines.specs.declared.front.Front.{Front}
 
 -- the modules of a program keep the rules of an object file
 pub are_modules : (grow : Bool) (behind : List Source) (b : Built) → IsBuilt grow behind (Ok b) → All IsModule (map module_of b.modules.items)

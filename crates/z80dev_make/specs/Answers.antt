@@ -1,18 +1,13 @@
 -- What the commands that make programs answer.
-use Rattle.std.specs.Prelude.{◌≡◌, ℕ, Bool, true, false, List, [], ◌∷◌, ◌++◌, Some, map, take}
+use Rattle.std.specs.Prelude.{◌≡◌, ℕ, List, [], ◌∷◌, ◌++◌, Some, map, take}
 use Rattle.zlink.specs.declared.fault.LinkFault.{LinkFault}
 use Rattle.zlink.specs.declared.fault.LinkFault.TheVariants as link
-use Rattle.zlink.specs.declared.source.Source.{Source}
-use Rattle.z80dev_make.specs.declared.faults.refusal.Told.{Told}
-use Rattle.z80dev_make.specs.Faults.Refusals.{misfit_text, of_link, program_refusal_text}
+use Rattle.shared_lines.specs.declared.faults.refusal.Told.{Told}
+use Rattle.shared_lines.specs.Faults.Refusals.{misfit_text, of_link, program_refusal_text, told_text}
 use Rattle.z80dev_finish.specs.Answers.{Answer, answer_by, nothing}
 use Rattle.z80dev_finish.specs.declared.answer.Answer as made
 use Rattle.z80dev_finish.specs.declared.answer.Kind.{Kind}
 use Rattle.z80dev_finish.specs.declared.answer.Kind.TheVariants as kind
-use Rattle.z80dev_make.specs.declared.answer.SourceFile.{SourceFile}
-
-abbrev pub told_text : Told → List ℕ
-told_text told = program_refusal_text told.path.now told.refusal
 
 -- an answer of the code as definitions see it
 abbrev pub answer_of : made.Answer Told → Answer
@@ -40,7 +35,3 @@ HasKinds kinds answer = (count : ℕ) × (kinds_of answer ≡ take count kinds)
 abbrev pub no_program : LinkFault → Answer
 no_program (link.NoFit why sizes cert) = record { files = text_files sizes.items cert.items; printed = []; said = Some (misfit_text why) }
 no_program fault = nothing (program_refusal_text [] (of_link fault))
-
--- the source is the file's text, and its name is the file's path
-abbrev pub IsSource : SourceFile → Source → Type 0
-IsSource file source = (source.name.now ≡ file.path.now) × (source.text.now ≡ file.text.now)

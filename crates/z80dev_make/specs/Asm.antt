@@ -4,11 +4,11 @@ use Rattle.asm_module.specs.declared.fault.AsmFault.{AsmFault}
 use Rattle.asm_module.specs.Assembled.{Assembled, Assembles, HasCause}
 use Rattle.zmo_module.specs.Modules.{Module}
 use Rattle.zmo_object.specs.Texts.{module_text}
-use Rattle.z80dev_make.specs.Front.{front_text, source_fault_text}
-use Rattle.z80dev_make.specs.Shared.{UnlessFaulty}
+use Rattle.shared_lines.specs.Front.{front_text, source_fault_text}
+use Rattle.shared_lines.specs.Shared.{UnlessFaulty}
 use Rattle.z80dev_finish.specs.declared.answer.Kind.TheVariants as kind
-use Rattle.z80dev_make.specs.declared.answer.SourceFile.{SourceFile}
-use Rattle.z80dev_make.specs.declared.front.Front.{Front}
+use Rattle.shared_lines.specs.declared.front.SourceFile.{SourceFile}
+use Rattle.shared_lines.specs.declared.front.Front.{Front}
 use Rattle.z80dev_finish.specs.Answers.{Answer, nothing}
 
 -- the object file of a module

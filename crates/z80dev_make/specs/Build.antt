@@ -1,5 +1,5 @@
 -- What `build` answers for sources after a front.
-use Rattle.std.specs.Prelude.{◌≡◌, ◌⊎◌, ℕ, Bool, true, false, List, [], ◌∷◌, ◌++◌, None, Some, Option, Result, Ok, Err, codes, decimal, map, slice_get}
+use Rattle.std.specs.Prelude.{◌≡◌, ◌⊎◌, ℕ, Bool, List, [], ◌∷◌, ◌++◌, None, Some, Option, Result, Ok, Err, codes, decimal, map, slice_get}
 use Rattle.std.specs.List.{AllZip, flat_map}
 use Rattle.zlink.specs.declared.building.Built.{Built}
 use Rattle.zlink.specs.declared.fault.BuildFault.{BuildFault}
@@ -10,15 +10,16 @@ use Rattle.zlink.specs.Built.{IsBuilt, IsExactBuild}
 use Rattle.zlink.specs.Linked.{symbol_of}
 use Rattle.zlisting.specs.Listing.{listing}
 use Rattle.zlisting.specs.Symbols.{symbols}
-use Rattle.z80dev_make.specs.Front.{earlier, front_lines, front_text, source_fault_text}
-use Rattle.z80dev_make.specs.Shared.{UnlessFaulty}
-use Rattle.z80dev_make.specs.declared.front.Front.{Front}
+use Rattle.shared_lines.specs.Front.{source_fault_text}
+use Rattle.shared_lines.specs.Shared.{UnlessFaulty}
+use Rattle.shared_lines.specs.declared.front.Front.{Front}
 use Rattle.z80dev_finish.specs.declared.answer.Kind.{Kind}
-use Rattle.z80dev_make.specs.declared.answer.SourceFile.{SourceFile}
+use Rattle.shared_lines.specs.declared.front.SourceFile.{SourceFile}
 use Rattle.z80dev_finish.specs.Answers.{Answer, nothing}
 use Rattle.z80dev_make.specs.declared.jumps.Jumps.{Jumps}
 use Rattle.z80dev_make.specs.Jumps.{jumps_of}
-use Rattle.z80dev_make.specs.Answers.{IsSource, no_program, program_files}
+use Rattle.shared_lines.specs.Behind.{HasOwnLines, IsBehind, IsSource}
+use Rattle.z80dev_make.specs.Answers.{no_program, program_files}
 use Rattle.z80dev_make.specs.Products.{IsMapText, listing_files, map_files, symbol_files}
 use Rattle.z80dev_make.specs.declared.products.Products.{Products}
 
@@ -45,26 +46,6 @@ grown_lines files origins grown = flat_map (λ k. line_from files (slice_get ori
 abbrev pub built_files : Products → List Source → Built → List ℕ → List (Kind × List ℕ)
 built_files products sources b mapped = program_files b.sizes.items b.cert.items b.com.items ++ listing_files products.list (listing b sources)
     ++ symbol_files products.list products.symbols (symbols b) (map symbol_of b.symbols.items) ++ map_files products.«map» mapped
-
--- the source is the file's text after the text of the front, and its name is the file's path
-abbrev pub IsBehind : Front → SourceFile → Source → Type 0
-IsBehind front file source = (source.name.now ≡ file.path.now) × (source.text.now ≡ front_text front ++ file.text.now)
-
--- the origin of a statement without this many lines before it
-abbrev pub earlier_origin : ℕ → Origin → Origin
-earlier_origin lines from = record from { line = earlier lines from.line }
-
--- The same program, but its lines have their own numbers.
-pub record HasOwnLines (front : Front) (b own : Built) : Type 0 where
-  pub file : own.com ≡ b.com
-  pub sizes : own.sizes ≡ b.sizes
-  pub cert : own.cert ≡ b.cert
-  pub symbols : own.symbols ≡ b.symbols
-  pub grown : own.grown ≡ b.grown
-  pub modules : own.modules ≡ b.modules
-  pub lines : own.lines ≡ b.lines
-  pub statements : own.statements.items ≡ map (earlier_origin (front_lines front)) b.statements.items
-  pub last : own.last.items ≡ map (earlier (front_lines front)) b.last.items
 
 -- the files of a program, whose listing shows the sources without the front
 abbrev pub built_answer : Products → List SourceFile → List Source → Built → List ℕ → Answer

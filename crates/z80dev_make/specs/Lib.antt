@@ -1,7 +1,3 @@
-pub mod Faults
-pub mod Front
-pub mod Defines
-pub mod Shared
 pub mod Answers
 pub mod Asm
 pub mod Link

@@ -7,7 +7,7 @@ use Rattle.zmo_object.specs.Reading.{read_of}
 use Rattle.zlink.specs.declared.fault.LinkFault.{LinkFault}
 use Rattle.zlink.specs.declared.linking.Linked.{Linked}
 use Rattle.zlink.specs.Linked.{IsExactLink, IsLinked, symbol_of}
-use Rattle.z80dev_make.specs.Faults.Refusals.{object_text}
+use Rattle.shared_lines.specs.Faults.Refusals.{object_text}
 use Rattle.z80dev_finish.specs.Answers.{Answer, nothing}
 use Rattle.z80dev_finish.specs.declared.answer.Kind.{Kind}
 use Rattle.program_map.specs.Map.{program_map}

@@ -19,9 +19,9 @@ use Rattle.zlink.specs.declared.program.fault.JoinFault.{JoinFault}
 use Rattle.zlink.specs.Program.Faults.{first_fault}
 use Rattle.zlink.specs.Program.Parts.{all_publics, parts}
 use Rattle.zlink.specs.Program.Whole.{public_statement}
-use Rattle.z80dev_make.specs.Front.{earlier, front_lines, front_text}
-use Rattle.z80dev_make.specs.declared.answer.SourceFile.{SourceFile}
-use Rattle.z80dev_make.specs.declared.front.Front.{Front}
+use Rattle.shared_lines.specs.Front.{earlier, front_lines, front_text}
+use Rattle.shared_lines.specs.declared.front.SourceFile.{SourceFile}
+use Rattle.shared_lines.specs.declared.front.Front.{Front}
 use Rattle.z80dev_make.specs.declared.jumps.Jumps.{Jumps}
 use Rattle.z80dev_make.specs.declared.warning.JumpWarning.{JumpWarning}
 

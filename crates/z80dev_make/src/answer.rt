@@ -4,17 +4,10 @@ ghost use Rattle.std.specs.Prelude.{◌≡◌, IfOk, codes, map};
 ghost use Rattle.z80dev_finish.specs.Answers.{file_of, nothing};
 ghost use Rattle.z80dev_make.specs.Answers.{answer_of, no_program, program_files, refusal_answer, text_files};
 
-use crate::faults::{Refusal, Told};
+use shared_lines::{Refusal, Told};
 use std::alloc::{AllocError, Global};
 use z80dev_finish::{Answer, Kind, NewFile};
 use zlink::LinkFault;
-
-/// A source file that was read: its path, which is its name, and its text.
-#[derive(Clone, Copy, Debug, PartialEq, Eq)]
-pub struct SourceFile<'a> {
-    pub path: &'a str,
-    pub text: &'a [u8],
-}
 
 /// Answers a refusal.
 pub(crate) fn refused<'a>(alloc: Global, told: Told<'a>) -> Answer<Told<'a>>

@@ -2,11 +2,13 @@
 
 ghost use Rattle.std.specs.Prelude.{◌≡◌, [], IfOk, List, Ok, Option, slice_get, string_bytes};
 ghost use Rattle.std.specs.List.{AllZip};
-ghost use Rattle.z80dev_make.specs.Answers.{answer_of, told_text};
-ghost use Rattle.z80dev_make.specs.Build.{IsAnswerOf, IsBehind, IsBuild, IsMade, IsRefusal, built_answer, grown_lines, line_from, path_at};
-ghost use Rattle.z80dev_make.specs.Front.{front_text};
+ghost use Rattle.z80dev_make.specs.Answers.{answer_of};
+ghost use Rattle.shared_lines.specs.Faults.Refusals.{told_text};
+ghost use Rattle.z80dev_make.specs.Build.{IsAnswerOf, IsBuild, IsMade, IsRefusal, built_answer, grown_lines, line_from, path_at};
+ghost use Rattle.shared_lines.specs.Behind.{IsBehind};
+ghost use Rattle.shared_lines.specs.Front.{front_text};
 ghost use Rattle.z80dev_make.specs.Jumps.{jumps_of};
-ghost use Rattle.z80dev_make.specs.Shared.{UnlessFaulty};
+ghost use Rattle.shared_lines.specs.Shared.{UnlessFaulty};
 ghost use Rattle.z80dev_make.specs.Warned.{AreWarnings};
 ghost use Rattle.program_map.specs.declared.form.SymbolForm.{SymbolForm};
 ghost use Rattle.z80dev_make.specs.Products.{IsMapText, listing_files, symbol_files};
@@ -16,16 +18,15 @@ ghost use Rattle.zlisting.specs.Listing.{listing};
 ghost use Rattle.zlisting.specs.Symbols.{symbols};
 ghost use Rattle.zlink.specs.declared.source.Source.{Source};
 
-use crate::answer::{SourceFile, no_program, program, refused, without_memory};
-use crate::behind::{sources_behind, sources_of, texts_behind, with_own_lines};
-use crate::faults::Told;
-use crate::front::{Front, front_text};
+use crate::answer::{no_program, program, refused, without_memory};
 use crate::jumps::{Jumps, jumps_of};
-use crate::locating::told_behind;
 use crate::products::{Products, put_listing, put_map, put_symbols};
-use crate::sharing::fault_of_front;
 use crate::warning::warn_built;
 use program_map::{map_of_built, map_text};
+use shared_lines::{
+    Front, SourceFile, Told, fault_of_front, front_text, sources_behind, sources_of, texts_behind,
+    told_behind, with_own_lines,
+};
 use std::alloc::{AllocError, Global};
 use std::fmt;
 use z80dev_finish::Answer;

@@ -12,9 +12,9 @@ ghost use Rattle.z80dev_make.specs.Products.{map_files};
 ghost use Rattle.z80dev_make.specs.Private.Steps.{AreRead};
 
 use crate::answer::{no_program, program, refused, without_memory};
-use crate::faults::{Refusal, Told};
 use crate::products::{Products, put_map, put_symbols};
 use program_map::{map_of_linked, map_text};
+use shared_lines::{Refusal, Told};
 use std::alloc::{AllocError, Global};
 use z80dev_finish::{Answer, NewFile};
 use zlink::{LinkFault, Linked, Module, link as link_modules};

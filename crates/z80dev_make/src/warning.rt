@@ -10,16 +10,14 @@ ghost use Rattle.jump_warnings.specs.Parts.{member_of};
 ghost use Rattle.jump_warnings.specs.Warnings.{all_warnings};
 ghost use Rattle.zmo_module.specs.Modules.{module_of};
 ghost use Rattle.zmo_module.specs.Rules.{IsModule};
-ghost use Rattle.z80dev_make.specs.Front.{earlier, front_lines};
+ghost use Rattle.shared_lines.specs.Front.{earlier, front_lines};
 ghost use Rattle.z80dev_make.specs.Private.Shown.{member_with, shown_in, shown_of};
 ghost use Rattle.z80dev_make.specs.Warned.{AreJumpWarnings, IsGivenAs, build_warnings, found_unless, joined, jump_warning_lines};
 
-use crate::answer::SourceFile;
-use crate::behind::number_lines;
-use crate::front::{Front, front_lines};
 use crate::warned::{Shown, line_at, put_message, site_of, warning_lines};
 use asm_module::{Lines, Module};
 use jump_warnings::{Part, Warning, find_warnings};
+use shared_lines::{Front, SourceFile, front_lines, number_lines};
 use std::alloc::{AllocError, Global};
 use zlink::{Built, JoinFault, Links, join};
 

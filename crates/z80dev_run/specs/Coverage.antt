@@ -1,7 +1,7 @@
 -- A listing with how often each line ran.
 use Rattle.std.specs.Prelude.{ℕ, ◌+◌, ◌*◌, ◌==◌, ◌&&◌, List, [], ◌∷◌, ◌++◌, Option, Some, None, Result, Ok, codes, decimal, if◌then◌else◌, slice_index}
 use Rattle.hex.specs.Hex.{decode_sized}
-use Rattle.debugger.specs.Printing.Columns.{blanks, on_right}
+use Rattle.state_text.specs.Printing.Columns.{blanks, on_right}
 
 -- the word whose two bytes these are
 abbrev pub word_of : {E : Type 0} → Result (List ℕ) E → Option ℕ

@@ -1,2 +1,2 @@
 -- The label of an address, as a debugger finds it.
-pub use Rattle.debugger.specs.Labelled.{Known, is_in_program, nearest_label, nearest_text, offset_text}
+pub use Rattle.state_text.specs.Labelled.{Known, is_in_program, nearest_label, nearest_text, offset_text}

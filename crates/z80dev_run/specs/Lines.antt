@@ -9,7 +9,7 @@ use Rattle.z80_table.specs.declared.DecodeFault.{DecodeFault}
 use Rattle.cpm_run.specs.Turns.{Call, Entry, Place, Program, place_at_pc}
 use Rattle.cpm_run.specs.declared.recording.TraceStep.{TraceStep}
 use Rattle.z80dev_run.specs.Labelled.{Known, nearest_label, nearest_text}
-use Rattle.debugger.specs.Printing.Columns.{blanks, column, on_right, word_text}
+use Rattle.state_text.specs.Printing.Columns.{blanks, column, on_right, word_text}
 
 -- how many bytes the instruction at the front of these has; all are shown if there is none
 abbrev pub decoded_size : Result (Instr × ℕ) DecodeFault → ℕ

@@ -4,7 +4,7 @@ use Rattle.std.specs.List.{flat_map}
 use Rattle.std.specs.List.Sorted.{IsNonDecreasingBy, IsPermutation}
 use Rattle.z80dev_run.specs.declared.profile.Counted.{Counted}
 use Rattle.z80dev_run.specs.Labelled.{Known, nearest_label, nearest_text}
-use Rattle.debugger.specs.Printing.Columns.{blanks, on_right, word_text}
+use Rattle.state_text.specs.Printing.Columns.{blanks, on_right, word_text}
 
 -- the addresses at which steps were made, with their numbers, if the counts begin with that of address n
 abbrev pub counted_rows : ℕ → List ℕ → List Counted

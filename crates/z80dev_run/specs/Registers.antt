@@ -13,8 +13,8 @@ use Rattle.cpm_run.specs.declared.tracing.Left.{Left}
 use Rattle.z80dev_run.specs.declared.registers.WayOut.{WayOut}
 use Rattle.z80dev_run.specs.declared.registers.WayOut.TheVariants as way
 use Rattle.z80dev_run.specs.Labelled.{Known, is_in_program, nearest_label, nearest_text}
-use Rattle.debugger.specs.Printing.Columns.{blanks, word_text}
-use Rattle.debugger.specs.Printing.Registers.{registers_text}
+use Rattle.state_text.specs.Printing.Columns.{blanks, word_text}
+use Rattle.state_text.specs.Printing.Registers.{registers_text}
 
 -- a word in memory, and four of them
 abbrev pub word_there : List ℕ → ℕ → List ℕ

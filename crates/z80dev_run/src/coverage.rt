@@ -8,7 +8,7 @@ ghost use Rattle.z80dev_run.specs.Coverage.{coverage_line, listed_address, margi
 use asm_macro::source_part;
 use bstr::ByteSlice;
 use cpm_run::Record;
-use debugger::{put_blanks, put_number};
+use state_text::{put_blanks, put_number};
 use std::alloc::{AllocError, Global};
 
 /// The address that a line of a listing begins with, if it does: four hexadecimal digits and two blanks.

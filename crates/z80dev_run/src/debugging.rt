@@ -3,7 +3,7 @@
 ghost use Rattle.std.specs.Prelude.{◌≡◌, ◌≤◌, ℕ, IfOk, List, false, map};
 ghost use Rattle.debugger.specs.Conversation.{Debugs};
 ghost use Rattle.debugger.specs.declared.conversation.TheConstants.{MOST_READS};
-ghost use Rattle.debugger.specs.Labelled.{symbol_parts};
+ghost use Rattle.state_text.specs.Labelled.{symbol_parts};
 ghost use Rattle.z80dev_run.specs.Program.{IsDebuggedRun, IsReadyToRun};
 
 use crate::running::Ready;

@@ -7,8 +7,8 @@ ghost use Rattle.cpm_run.specs.declared.station.Patience.TheVariants as how;
 ghost use Rattle.screen_codes.specs.declared.codes.Pending.TheVariants.{Nothing};
 ghost use Rattle.z80dev_run.specs.Desk.{as_keys, has_left, leaves_by, line_key, seat_of};
 ghost use Rattle.z80dev_run.specs.declared.desk.Keys.TheVariants as keys;
-ghost use Rattle.z80dev_run.specs.declared.desk.TheConstants.{MOST_LISTENS};
 
+use crate::rhythm::Rhythm;
 use cpm_run::{Came, Patience, Station, StationFault};
 use screen_codes::{Codes, Screen};
 use std::alloc::Global;
@@ -16,18 +16,7 @@ use std::marker::Model;
 use streams::{Input, ReadFault, Sink, print};
 
 /// At most this number of times standard input is read: ten times a second for 13 years.
-pub const MOST_LISTENS: u64 = 4_294_967_296;
-
-/// How many steps a program makes between two looks at the keyboard, if it has shown something or got a byte since the last. A look may take a
-/// tenth of a second, so a program that looks for a key all the time runs at about 40 times the speed of a Z80 of 4 MHz.
-const BUSY: u64 = 2_000_000;
-
-/// The same if it has not. Then nearly all the time is spent in waiting, so that a program that only looks for a key leaves the processor free.
-const IDLE: u64 = 200_000;
-
-/// By lines, a program that shows something between any two looks is given what has come after this number of steps. It may have to wait for a
-/// line then, so this is half a second and more.
-const LONGEST_BUSY: u64 = 100_000_000;
+const MOST_LISTENS: u64 = 4_294_967_296;
 
 /// The key Ctrl-\. A person leaves by pressing it twice.
 const LEAVE: u8 = 0x1C;
@@ -68,12 +57,7 @@ pub struct Desk<I: Input, S: Sink> {
     /// How often standard input was read.
     reads: u64,
     state: InputState,
-    /// How many steps were made before the last look.
-    looked: u64,
-    /// How many steps were made before the last read.
-    heard: u64,
-    /// Whether something was shown, or came, since the last read.
-    is_busy: bool,
+    rhythm: Rhythm,
     /// Whether the last key is the first half of leaving.
     is_leaving: bool,
 }
@@ -142,9 +126,7 @@ impl<I: Input, S: Sink> Desk<I, S> {
             text: Vec::new(alloc),
             reads: 0,
             state: InputState::Open,
-            looked: 0,
-            heard: 0,
-            is_busy: true,
+            rhythm: Rhythm::new(),
             is_leaving: false,
         }
     }
@@ -153,31 +135,18 @@ impl<I: Input, S: Sink> Desk<I, S> {
     pub fn into_streams(self) -> (I, S)
         ensures input { result.0 ≡ self.input }
         ensures output { result.1 ≡ self.output }
-        ensures reads { I.reads result.0 ≤ MOST_LISTENS }
+        ensures reads { I.reads result.0 ≤ 4294967296 }
     {
         (self.input, self.output)
     }
 
-    /// Whether the keyboard is to be looked at now. A look may last until a line comes if keys come by lines. So then nobody looks for a person
-    /// who wants to leave, which lines cannot say, and if the program asks for keys, it has to be idle, or to have been busy for long.
+    /// Whether the keyboard is to be looked at now.
     fn is_due(&mut self, turns: u64, patience: Patience) -> bool
         ensures same { self.new ≡ self.old }
         ensures waits { patience ≡ how.Wait → result ≡ true }
         ensures lines { patience ≡ how.Glance → self.old.keys ≡ keys.Lines → result ≡ false }
     {
-        match patience {
-            Patience::Wait => return true,
-            Patience::Glance if self.keys == Keys::Lines => return false,
-            Patience::Glance | Patience::Poll => {}
-        }
-        let since = turns.saturating_sub(self.heard);
-        if self.keys == Keys::Lines && self.is_busy && since < LONGEST_BUSY {
-            self.looked = turns;
-            self.is_busy = false;
-            return false;
-        }
-        let pause = if self.is_busy { BUSY } else { IDLE };
-        turns.saturating_sub(self.looked) >= pause
+        self.rhythm.is_due(self.keys, turns, patience)
     }
 
     /// What bytes that were read mean. Those of lines become keys.
@@ -225,7 +194,7 @@ impl<I: Input, S: Sink> Desk<I, S> {
                 Ok(Came::End)
             }
             Ok(count) => {
-                self.is_busy = true;
+                self.rhythm.work();
                 Ok(self.hear(&mut buffer[..count]))
             }
             Err(ReadFault::Interrupted) => Ok(Came::Bytes(0)),
@@ -252,9 +221,7 @@ impl<I: Input, S: Sink> Station for Desk<I, S> {
         if buffer.is_empty() || !self.is_due(turns, patience) {
             return Ok(Came::Bytes(0));
         }
-        self.looked = turns;
-        self.heard = turns;
-        self.is_busy = false;
+        self.rhythm.read_at(turns);
         self.look(buffer)
     }
 
@@ -262,7 +229,7 @@ impl<I: Input, S: Sink> Station for Desk<I, S> {
         if bytes.is_empty() {
             return Ok(());
         }
-        self.is_busy = true;
+        self.rhythm.work();
         if self.screen.codes == Codes::Plain {
             return match print(&mut self.output, bytes) {
                 Ok(()) => Ok(()),

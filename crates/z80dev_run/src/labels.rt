@@ -2,22 +2,22 @@
 
 ghost use Rattle.std.specs.Prelude.{◌≡◌, IfOk, map};
 ghost use Rattle.std.specs.Option.{option_map};
-ghost use Rattle.debugger.specs.Labelled.{is_in_program, nearest_label, symbol_parts};
+ghost use Rattle.state_text.specs.Labelled.{is_in_program, nearest_label, symbol_parts};
 ghost use Rattle.disassembler.specs.Reading.{label_parts};
 
-use debugger::Symbol;
 use disassembler::Label;
+use state_text::Symbol;
 use std::alloc::{AllocError, Global};
 use std::marker::Model;
 
 /// The labels of a program, by their addresses, and the number of its bytes.
 #[derive(Drop)]
 pub struct Labels {
-    found: debugger::Labels,
+    found: state_text::Labels,
 }
 
 impl Model for Labels {
-    ghost use Rattle.debugger.specs.Labelled.{Known};
+    ghost use Rattle.state_text.specs.Labelled.{Known};
 
     ghost Value = { Known };
 
@@ -44,7 +44,7 @@ impl Labels {
     {
         let symbols = symbols_of(alloc, labels)?;
         Ok(Labels {
-            found: debugger::Labels::new(alloc, &symbols, size)?,
+            found: state_text::Labels::new(alloc, &symbols, size)?,
         })
     }
 

@@ -15,13 +15,14 @@ mod profile;
 mod recorded;
 mod registers;
 mod reports;
+mod rhythm;
 mod running;
 mod stopped;
 
 pub use coverage::coverage_file;
 pub use cpm_run::{Arrival, Left, PlayEnd, Record, Station, Stop, TraceStep, Why, Wish};
 pub use debugger::{Broken, DebugFault, StartFault, Symbol};
-pub use desk::{Desk, Keys, MOST_LISTENS};
+pub use desk::{Desk, Keys};
 pub use ending::conclude;
 pub use labels::Labels;
 pub use lines::trace_lines;

@@ -4,12 +4,12 @@ ghost use Rattle.std.specs.Prelude.{◌≡◌, ◌≤◌, ◌++◌, IfOk, OnOk, 
 ghost use Rattle.cpm_run.specs.Turns.{place_at_pc};
 ghost use Rattle.hex.specs.Hex.{encode_upper};
 ghost use Rattle.z80dev_run.specs.Labelled.{nearest_label, nearest_text};
-ghost use Rattle.debugger.specs.Printing.Columns.{word_text};
+ghost use Rattle.state_text.specs.Printing.Columns.{word_text};
 ghost use Rattle.z80dev_run.specs.Lines.{IsTrace, IsTraceLine, ShowsAt, change_text, changes, done_text, index_changes, main_changes, other_changes, place_text, shadow_changes, shown_size};
 
 use crate::labels::Labels;
 use cpm_run::{BDOS, TraceStep, bios_entry};
-use debugger::{put_blanks, put_column, put_label, put_number, put_word};
+use state_text::{put_blanks, put_column, put_label, put_number, put_word};
 use std::alloc::{AllocError, Global};
 use z80_cpu::Cpu;
 use z80_table::decode;

@@ -8,7 +8,7 @@ ghost use Rattle.z80dev_run.specs.Profile.{IsProfile, counted_rows, order_of, pr
 use crate::labels::Labels;
 use crate::lines::label_of;
 use cpm_run::Record;
-use debugger::{put_blanks, put_number, put_word};
+use state_text::{put_blanks, put_number, put_word};
 use std::alloc::{AllocError, Global};
 
 /// An address, and how many steps were made there.

@@ -10,7 +10,7 @@ use crate::lines::label_of;
 use cpm_bdos::{Function, SearchCall};
 use cpm_fcb::Fcb;
 use cpm_run::{BDOS, Left, TraceStep, bios_entry, is_finished};
-use debugger::{put_blanks, put_registers, put_word};
+use state_text::{put_blanks, put_registers, put_word};
 use std::alloc::{AllocError, Global};
 use std::collections::VecDeque;
 use z80_cpu::{Cpu, Memory};

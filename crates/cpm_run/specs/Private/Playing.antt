@@ -136,11 +136,13 @@ taken turns bytes (Err e) arrivals = arrivals
 pub record IsStill {S : Type 0} (old new : Playing S) : Type 0 where
   pub cpu : new.cpu ≡ old.cpu
   pub turns : new.turns ≡ old.turns
+  pub looked : new.looked ≡ old.looked
 
 -- what showing leaves as it was
 pub record OnlyShows {S : Type 0} (old new : Playing S) : Type 0 where
   pub cpu : new.cpu ≡ old.cpu
   pub turns : new.turns ≡ old.turns
+  pub looked : new.looked ≡ old.looked
   pub ended : new.ended ≡ old.ended
   pub disk : new.bdos.disk ≡ old.bdos.disk
   pub arrivals : new.arrivals.items ≡ old.arrivals.items

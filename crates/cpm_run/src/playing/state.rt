@@ -4,6 +4,7 @@ ghost use Rattle.std.specs.Prelude.{◌≡◌, ◌≢◌, ◌≤◌, ◌<◌, �
 ghost use Rattle.cpm_run.specs.Play.{IsEcho, PlayState, PlaysOn, arrived, first_state};
 ghost use Rattle.cpm_run.specs.Seat.{Seat};
 ghost use Rattle.cpm_run.specs.Turns.{is_finished};
+ghost use Rattle.cpm_run.specs.Private.Asking.{IsReady, need_of};
 ghost use Rattle.cpm_run.specs.Private.Playing.{AfterShowing, HasShown, IsStill, IsUnasked, OnlyShows, Stands, Waits, WaitsOn, Went, state_of, taken};
 
 use crate::arriving::{Arrival, PlayEnd};
@@ -95,6 +96,7 @@ impl<S: Sectors> Playing<S> {
         ensures ahead { self.new.ahead.items ≡ self.old.ahead.items }
         ensures arrivals { self.new.arrivals.items ≡ self.old.arrivals.items }
         ensures ended { self.new.ended ≡ self.old.ended }
+        ensures looked { self.new.looked ≡ self.old.looked }
         ensures goes { (start : PlayState S) (shown : List ℕ) → PlaysOn S.sectors S.faults start (state_of self.old shown) → Went S.sectors S.faults result start (state_of self.new shown) }
     {
         let (made, stop) = z80_machine::run(&mut self.cpu, &mut self.memory, SYSTEM, most);
@@ -120,11 +122,27 @@ impl<S: Sectors> Playing<S> {
         ensures ahead { self.new.ahead.items ≡ self.old.ahead.items }
         ensures arrivals { self.new.arrivals.items ≡ self.old.arrivals.items }
         ensures ended { self.new.ended ≡ self.old.ended }
+        ensures looked { self.new.looked ≡ self.old.looked }
         ensures goes { (start : PlayState S) (shown : List ℕ) → PlaysOn S.sectors S.faults start (state_of self.old shown) → Went S.sectors S.faults result start (state_of self.new shown) }
     {
         let end = turn(&mut self.cpu, &mut self.memory, &mut self.bdos);
         self.turns += 1;
         end
+    }
+
+    /// Makes the next step, which finds the input that it takes, unless no byte will come.
+    pub(crate) fn take_ready_turn(&mut self) -> Option<Why>
+        requires running { is_finished self.old.cpu.pc ≡ false }
+        requires room { self.old.turns < 2 ^ 64 - 1 }
+        requires ready { IsReady (need_of self.old.cpu) (state_of self.old []).run self.old.ended }
+        ensures turns { self.new.turns ≡ self.old.turns + 1 }
+        ensures ahead { self.new.ahead.items ≡ self.old.ahead.items }
+        ensures arrivals { self.new.arrivals.items ≡ self.old.arrivals.items }
+        ensures ended { self.new.ended ≡ self.old.ended }
+        ensures looked { self.new.looked ≡ self.old.looked }
+        ensures goes { (start : PlayState S) (shown : List ℕ) → PlaysOn S.sectors S.faults start (state_of self.old shown) → Went S.sectors S.faults result start (state_of self.new shown) }
+    {
+        self.take_turn()
     }
 
     /// Takes bytes that came. If memory runs out, none of them came.

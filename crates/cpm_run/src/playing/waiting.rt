@@ -138,9 +138,12 @@ impl<S: Sectors> Playing<S> {
         alloc: Global,
         station: &mut K,
     ) -> Result<(), PlayEnd>
-        ensures still { IsStill self.old self.new }
+        requires looked { self.old.looked ≤ self.old.turns }
+        ensures cpu { self.new.cpu ≡ self.old.cpu }
+        ensures turns { self.new.turns ≡ self.old.turns }
         ensures ready { OnOk result (IsReady (need_of self.old.cpu) (state_of self.new []).run self.new.ended) }
-        ensures looked { OnOk result ((self.new.turns - self.new.looked < 2000000) × (self.old.looked ≤ self.old.turns → self.new.looked ≤ self.new.turns)) }
+        ensures looked { self.new.looked ≤ self.new.turns }
+        ensures lately { OnOk result (self.new.turns - self.new.looked < 2000000) }
         ensures so_far { (limit : ℕ) (start : PlayState S) (before : Seat) → SoFar S.sectors S.faults start before self.old (K.seat station.old) → IsBetween limit self.old → Continues S.sectors S.faults limit result start before self.new (K.seat station.new) }
     {
         let need = needed(&self.cpu);

@@ -3,7 +3,7 @@ use Rattle.std.specs.Prelude.{◌≡◌, ◌∷◌, ◌++◌, ◌⊎◌, ℕ, Bo
 use Rattle.std.specs.Io.KnownBytes.{Consumes, IsAtEnd}
 use Rattle.streams.specs.Stream.{Stream}
 use Rattle.debugger.specs.Conversation.{BeginsLines, HasNoEnd, SessionState, TalksOn}
-use Rattle.debugger.specs.Labelled.{Known}
+use Rattle.state_text.specs.Labelled.{Known}
 
 -- what is after the last line end is the beginning of the next line, unless the session was quit
 abbrev pub IsNextLine : List ℕ → List ℕ → Bool → Type 0

@@ -1,9 +1,9 @@
 -- What a command prints of the breakpoints and the watched bytes before it.
 use Rattle.std.specs.Prelude.{◌≡◌, ℕ, List, [], codes}
-use Rattle.debugger.specs.declared.command.Command.{Command}
-use Rattle.debugger.specs.declared.command.Command.TheVariants as command
-use Rattle.debugger.specs.declared.stops.Stops.{Stops}
-use Rattle.debugger.specs.Labelled.{Known}
+use Rattle.debugger_commands.specs.declared.command.Command.{Command}
+use Rattle.debugger_commands.specs.declared.command.Command.TheVariants as command
+use Rattle.machine_history.specs.declared.stops.Stops.{Stops}
+use Rattle.state_text.specs.Labelled.{Known}
 use Rattle.debugger.specs.Text.{stops_text}
 
 -- the text of `info` and of `delete`

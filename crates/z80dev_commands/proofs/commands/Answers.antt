@@ -3,7 +3,7 @@ use Rattle.std.proofs.lemmas.Result.{err_from_is_err_and}
 use Rattle.clap.specs.Words.{HasKind, app_of, fault_of, found_of, is_simple_and_free, kind_of, rows_of, takes}
 use Rattle.clap.specs.declared.error.kind.ErrorKind.{ErrorKind}
 use Rattle.z80dev_commands.proofs.Ends.{ends_job, ends_refused, ends_taken}
-use Rattle.z80dev_commands.proofs.Rows.{IsMet, met_by, unmet_by}
+use Rattle.z80dev_commands.proofs.Rows.{IsMet, met_by, unmet_by, unnamed}
 use Rattle.z80dev_commands.proofs.commands.Goals as goal
 
 pub returns-in_err-matches-clause-taken : goal.returns-in_err-matches-clause-taken
@@ -44,3 +44,6 @@ pub returns-in_default-clause-job : goal.returns-in_default-clause-job
 returns-in_default-clause-job c =
     let m = c.in_ok-matches in
     unmet_by (app_of c.in_ok-z80dev.field-0) (map (λ s. string_bytes s) c.args.words.now) m.matches c.in_ok-z80dev.ensures.app m.ensures.kinds m.ensures.matches c.in_default.ensures.name
+
+pub returns-then-words-le1-clause-job : goal.returns-then-words-le1-clause-job
+returns-then-words-le1-clause-job c = unnamed (λ s. string_bytes s) c.args.words.now c.if-words-le1.true

@@ -5,7 +5,7 @@ use Rattle.zmo_module.specs.Modules.{module_of}
 use Rattle.zmo_module.specs.declared.module.Module as held
 use Rattle.jump_warnings.specs.Parts.{Member}
 use Rattle.zlink.specs.declared.program.joining.Links.{Links}
-use Rattle.z80dev_make.specs.declared.answer.SourceFile.{SourceFile}
+use Rattle.shared_lines.specs.declared.front.SourceFile.{SourceFile}
 use Rattle.z80dev_make.specs.declared.warned.Shown as code
 use Rattle.z80dev_make.specs.Warned.{ShownSource}
 

@@ -1,5 +1,5 @@
--- How reading object files ends, and sources by their parts.
-use Rattle.std.specs.Prelude.{◌≡◌, ℕ, List, All, Result, Ok, Err, Vec, map}
+-- How reading object files ends.
+use Rattle.std.specs.Prelude.{ℕ, List, All, Result, Ok, Err, Vec, map}
 use Rattle.std.specs.List.{AllZip}
 use Rattle.std.specs.Global.{Global}
 use Rattle.zmo_module.specs.declared.module.Module as held
@@ -7,7 +7,6 @@ use Rattle.zmo_module.specs.Modules.{module_of}
 use Rattle.zmo_module.specs.Rules.{IsModule}
 use Rattle.zmo_object.specs.declared.fault.ObjectFault.{ObjectFault}
 use Rattle.zmo_object.specs.declared.fault.ObjectFault.TheVariants as object
-use Rattle.zlink.specs.declared.source.Source.{Source}
 use Rattle.z80dev_make.specs.Link.{IsFirstFaultyObject, IsObject}
 
 -- All are read as modules that keep the rules; or this is the error of the first that cannot be read; or memory ran out.
@@ -15,7 +14,3 @@ abbrev pub AreRead : List (List ℕ) → Result (Vec held.Module Global) ObjectF
 AreRead objects (Ok modules) = AllZip IsObject objects (map module_of modules.items) × All IsModule (map module_of modules.items)
 AreRead objects (Err object.NoMemory) = Unit {0}
 AreRead objects (Err fault) = IsFirstFaultyObject objects fault
-
--- Sources with these names and texts.
-abbrev pub AreNamed : List (List ℕ) → List (List ℕ) → List Source → Type 0
-AreNamed names texts sources = (map (λ source. source.name.now) sources ≡ names) × (map (λ source. source.text.now) sources ≡ texts)

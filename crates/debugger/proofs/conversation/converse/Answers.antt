@@ -2,7 +2,7 @@ use Rattle.std.proofs.Common.{◌≡◌, ◌∙◌, ◌++◌, List, [], Bool, �
 use Rattle.std.proofs.KnownBytes.{Consumes-nil, Consumes-trans}
 use Rattle.std.proofs.lemmas.List.Elements.{All-nil}
 use Rattle.debugger.specs.Conversation.{SessionState}
-use Rattle.debugger.specs.Labelled.{Known}
+use Rattle.state_text.specs.Labelled.{Known}
 use Rattle.debugger.specs.Private.Lines.{GetsLines, TakesLines}
 use Rattle.debugger.proofs.Talking.{all_taken, going_on, last_read, lines_on, quit_read, untaken}
 use Rattle.debugger.proofs.conversation.converse.Goals as goal

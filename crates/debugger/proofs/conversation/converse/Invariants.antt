@@ -1,7 +1,7 @@
 use Rattle.std.proofs.Common.{◌≡◌, List, [], ℕ, false}
 use Rattle.std.specs.Io.KnownBytes.{Consumes}
 use Rattle.debugger.specs.Private.Lines.{TakesLines}
-use Rattle.debugger.specs.Walk.{IsTrue_of_run}
+use Rattle.machine_history.specs.Walk.{IsTrue_of_run}
 use Rattle.debugger.proofs.conversation.converse.Given as goal
 
 abbrev pub invariant-loop : goal.invariant-loop

@@ -1,7 +1,7 @@
 use Rattle.std.proofs.Common.{List, ℕ, ◌∷◌, [], ◌∙◌, drop, get_or, refl, subst, sym, take}
 use Rattle.std.proofs.lemmas.List.{take-append-drop, take_all, take_more}
 use Rattle.debugger.specs.Conversation.{SessionState}
-use Rattle.debugger.specs.Labelled.{Known}
+use Rattle.state_text.specs.Labelled.{Known}
 use Rattle.debugger.specs.Private.Lines.{TakesAllLines, TakesLines}
 use Rattle.debugger.proofs.Talking.{all_taken, quit_before, take_on, untaken}
 use Rattle.debugger.proofs.conversation.take_bytes.Goals as goal

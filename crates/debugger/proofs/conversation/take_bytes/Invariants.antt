@@ -1,6 +1,6 @@
 use Rattle.std.proofs.Common.{◌≡◌, take}
 use Rattle.debugger.specs.Private.Lines.{TakesAllLines}
-use Rattle.debugger.specs.Walk.{IsTrue_of_run}
+use Rattle.machine_history.specs.Walk.{IsTrue_of_run}
 use Rattle.debugger.proofs.conversation.take_bytes.Given as goal
 
 abbrev pub invariant-loop-byte : goal.invariant-loop-byte

@@ -1,10 +1,10 @@
 use Rattle.std.proofs.Common.{◌∙◌, ap, length, map, subst, sym, false, Some, []}
 use Rattle.cpm_console.specs.Dialog.{Dialog, dialog_of}
 use Rattle.debugger.specs.Conversation.{SessionState, TalksThrough}
-use Rattle.debugger.specs.Going.{IsFirstShown}
-use Rattle.debugger.specs.Labelled.{Known, symbol_parts}
-use Rattle.debugger.specs.Walk.{Shown}
-use Rattle.debugger.specs.declared.stops.Stops.{Stops}
+use Rattle.machine_history.specs.Going.{IsFirstShown}
+use Rattle.state_text.specs.Labelled.{Known, symbol_parts}
+use Rattle.machine_history.specs.Walk.{Shown}
+use Rattle.machine_history.specs.declared.stops.Stops.{Stops}
 use Rattle.debugger.proofs.debugging.debug.Goals as goal
 
 pub returns-in-Ok-converse-clause-debugged : goal.returns-in-Ok-converse-clause-debugged

@@ -1,7 +1,7 @@
 use Rattle.std.proofs.Common.{◌≡◌, ◌++◌, ◌∷◌, ◌∙◌, ℕ, List, [], Result, Ok, Err, OnOk, ap, append_assoc, codes}
 use Rattle.std.specs.Bool.{if◌then◌else◌}
 use Rattle.std.specs.Result.{is_ok}
-use Rattle.debugger.specs.Labelled.{labelled_address}
+use Rattle.state_text.specs.Labelled.{labelled_address}
 use Rattle.debugger.proofs.text.put_unchanged.Goals as goal
 
 -- three texts, one after the other; there may be no room for the last

@@ -1,5 +1,5 @@
 use Rattle.std.proofs.Common.{All}
-use Rattle.error_messages.specs.Texts.{IsNote}
+use Rattle.message_texts.specs.Texts.{IsNote}
 use Rattle.error_messages.proofs.telling.all_printable.Given as goal
 
 -- The notes so far are lines.

@@ -2,7 +2,7 @@ use Rattle.std.proofs.Common.{◌∙◌, ◌∷◌, [], ap, refl}
 use Rattle.std.specs.List.{list_any}
 use Rattle.std.proofs.lemmas.List.Folds.{list_any-append}
 use Rattle.z80dev_explain.specs.Reports.{is_report_of}
-use Rattle.z80dev_explain.proofs.Counting.{last_is, or_true}
+use Rattle.report_texts.proofs.Counting.{last_is, or_true}
 use Rattle.z80dev_explain.proofs.errors.put_error.Goals as goal
 
 pub returns : goal.returns

@@ -1,5 +1,5 @@
 use Rattle.std.proofs.Common.{inl, inr, refl, ◌∙◌}
-use Rattle.z80dev_jobs.proofs.Carried.{put_so}
+use Rattle.job_steps.proofs.Carried.{put_so}
 use Rattle.z80dev_jobs.proofs.dispatch.refuse_words.Goals as goal
 
 pub returns : goal.returns

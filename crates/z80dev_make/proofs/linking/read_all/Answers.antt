@@ -6,7 +6,8 @@ use Rattle.zmo_module.specs.Modules.{module_of}
 use Rattle.zmo_module.specs.Rules.{IsModule}
 use Rattle.zmo_object.specs.Reading.{AnswersAsRead, read_of}
 use Rattle.z80dev_make.specs.Link.{IsObject}
-use Rattle.z80dev_make.proofs.In_order.{one_more, stops}
+use Rattle.shared_lines.proofs.In_order.{one_more}
+use Rattle.z80dev_make.proofs.In_order.{stops}
 use Rattle.z80dev_make.proofs.linking.read_all.Goals as goal
 
 pub loop-object-init : goal.loop-object-init

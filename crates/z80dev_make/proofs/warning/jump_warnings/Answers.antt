@@ -5,7 +5,7 @@ use Rattle.zmo_module.specs.Modules.{module_of}
 use Rattle.zmo_module.specs.Rules.{IsModule}
 use Rattle.zmo_module.specs.declared.module.Module as held
 use Rattle.zlink.specs.Program.Faults.{first_fault}
-use Rattle.z80dev_make.specs.Front.{earlier, front_lines}
+use Rattle.shared_lines.specs.Front.{earlier, front_lines}
 use Rattle.jump_warnings.specs.declared.warnings.Warning.{Warning}
 use Rattle.jump_warnings.specs.Warnings.{all_warnings}
 use Rattle.z80dev_make.specs.Private.Shown.{shown_in}

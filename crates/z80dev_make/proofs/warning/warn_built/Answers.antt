@@ -5,7 +5,7 @@ use Rattle.zmo_module.specs.Modules.{module_of}
 use Rattle.zmo_module.specs.Rules.{IsModule}
 use Rattle.zlink.specs.Program.Faults.{first_fault}
 use Rattle.jump_warnings.specs.Warnings.{all_warnings}
-use Rattle.z80dev_make.specs.Front.{earlier, front_lines}
+use Rattle.shared_lines.specs.Front.{earlier, front_lines}
 use Rattle.z80dev_make.specs.Private.Shown.{shown_in}
 use Rattle.z80dev_make.specs.Warned.{joined, found_unless, source_shown, jump_warning_lines}
 use Rattle.z80dev_make.proofs.Held.{all_shown, each_own}

@@ -1,5 +1,5 @@
 use Rattle.std.proofs.Common.{◌≡◌, map, take}
-use Rattle.debugger.specs.Labelled.{symbol_parts}
+use Rattle.state_text.specs.Labelled.{symbol_parts}
 use Rattle.disassembler.specs.Reading.{label_parts}
 use Rattle.z80dev_run.proofs.labels.symbols_of.Given as goal
 

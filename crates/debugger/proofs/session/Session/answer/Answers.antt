@@ -1,12 +1,12 @@
 use Rattle.std.proofs.Common.{List, ℕ, Bor, Ok, Option, ap, refl, sym, subst, ◌∙◌}
 use Rattle.std.proofs.lemmas.Result.{IfOk-weaker}
-use Rattle.debugger.specs.Labelled.{Known}
+use Rattle.state_text.specs.Labelled.{Known}
 use Rattle.debugger.specs.Private.Listing.{ListsStops}
 use Rattle.debugger.specs.Session.{AnswersAs}
 use Rattle.debugger.specs.Text.{Says}
-use Rattle.debugger.specs.Typed.{Reading, shown_reading}
-use Rattle.debugger.specs.Walk.{MemoryState, Point}
-use Rattle.debugger.specs.declared.command.Command.{Command}
+use Rattle.debugger_commands.specs.Typed.{Reading, shown_reading}
+use Rattle.machine_history.specs.Walk.{MemoryState, Point}
+use Rattle.debugger_commands.specs.declared.command.Command.{Command}
 use Rattle.debugger.proofs.session.Session.answer.Goals as goal
 
 pub returns-in_ok-told-in-Ok-Some-clause-obeys : goal.returns-in_ok-told-in-Ok-Some-clause-obeys

@@ -1,7 +1,7 @@
 use Rattle.std.proofs.Common.{ℕ, List, [], ◌∷◌, ◌++◌, ap, ◌∙◌, subst}
 use Rattle.std.proofs.lemmas.Result.{IfOk-weaker}
-use Rattle.debugger.specs.Stops.{IsLast}
-use Rattle.debugger.specs.declared.stops.Stops.{Stops}
+use Rattle.machine_history.specs.Stops.{IsLast}
+use Rattle.machine_history.specs.declared.stops.Stops.{Stops}
 use Rattle.debugger.proofs.session.Session.last_change.Goals as goal
 
 pub returns : goal.returns

@@ -1,6 +1,6 @@
 use Rattle.std.proofs.Common.{sym, subst, IfOk}
 use Rattle.debugger.specs.Text.{Says}
-use Rattle.debugger.specs.declared.command.Command.{Command}
+use Rattle.debugger_commands.specs.declared.command.Command.{Command}
 use Rattle.debugger.proofs.session.Session.said.Goals as goal
 
 pub returns-in-Step : goal.returns-in-Step

@@ -1,7 +1,7 @@
 use Rattle.std.proofs.Common.{◌∙◌, ℕ, List, ap, length, map, subst}
 use Rattle.std.proofs.lemmas.Result.{IfOk-weaker}
 use Rattle.debugger.specs.Conversation.{DebugsTo}
-use Rattle.debugger.specs.Labelled.{symbol_parts}
+use Rattle.state_text.specs.Labelled.{symbol_parts}
 use Rattle.z80dev_run.specs.Input.{typed}
 use Rattle.z80dev_run.proofs.running.Ready.debug.Goals as goal
 

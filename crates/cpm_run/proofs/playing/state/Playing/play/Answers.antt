@@ -1,4 +1,4 @@
 use Rattle.cpm_run.proofs.playing.state.Playing.play.Goals as goal
 
 pub loop-end-preserved : goal.loop-end-preserved
-loop-end-preserved g c = (c.go_round.ensures.bound, λ start before first. c.in_default.ensures.so_far start before (c.loop-end.invariant.1 start before first))
+loop-end-preserved g c = (c.go_round.ensures.bound, c.go_round.ensures.looked, λ start before first. c.in_default.ensures.so_far start before (c.loop-end.invariant.2 start before first))

@@ -1,0 +1,5 @@
+pub mod Clear
+pub mod Disassembled
+pub mod Last_point
+pub mod Lined
+pub mod Overwritten

@@ -1,0 +1,13 @@
+//! The commands from sources to programs and back: `asm`, `link`, `build`, `check` and `dis`.
+#![tactic(auto)]
+
+mod disassembling;
+mod jobs;
+mod making;
+mod outputs;
+mod values;
+
+pub use disassembling::dis_file;
+pub use jobs::{asm_job, build_job, link_job};
+pub use making::{check_files, sources_of};
+pub use values::bad_define;

@@ -1,6 +1,0 @@
-use Rattle.debugger.specs.Stops.{IsLastBefore}
-use Rattle.debugger.specs.Walk.{IsAfter}
-use Rattle.debugger.proofs.history.History.last.Given as goal
-
-abbrev pub invariant-loop-number : goal.invariant-loop-number
-invariant-loop-number l = record { known : IsLastBefore l.stops l.self.start l.number l.point l.last; all : IsAfter l.self.start l.number l.point }

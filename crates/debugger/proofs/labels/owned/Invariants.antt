@@ -1,6 +1,0 @@
-use Rattle.std.proofs.Common.{◌≡◌, map, take}
-use Rattle.debugger.specs.Labelled.{parts_of, symbol_parts}
-use Rattle.debugger.proofs.labels.owned.Given as goal
-
-abbrev pub invariant-loop-symbol : goal.invariant-loop-symbol
-invariant-loop-symbol l = map parts_of l.named.items ≡ map symbol_parts (take l.symbol-index l.symbols)

@@ -1,5 +1,0 @@
-use Rattle.debugger.proofs.OneState.{one_session}
-use Rattle.debugger.proofs.laws.one_session.Goals as goal
-
-pub returns : goal.returns
-returns c = one_session c.one_turn.ensures

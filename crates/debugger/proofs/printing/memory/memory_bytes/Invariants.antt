@@ -1,6 +1,0 @@
-use Rattle.std.proofs.Common.{◌≡◌}
-use Rattle.debugger.specs.Printing.Memory.{memory_bytes}
-use Rattle.debugger.proofs.printing.memory.memory_bytes.Given as goal
-
-abbrev pub invariant-loop-offset : goal.invariant-loop-offset
-invariant-loop-offset l = l.bytes.items ≡ memory_bytes l.memory l.from l.offset

@@ -1,7 +1,0 @@
-use Rattle.std.proofs.Common.{◌≡◌, drop}
-use Rattle.std.specs.Prelude.{find}
-use Rattle.debugger.specs.Stops.{breaks}
-use Rattle.debugger.proofs.stops.broken.Given as goal
-
-abbrev pub invariant-loop-breakpoint : goal.invariant-loop-breakpoint
-invariant-loop-breakpoint l = find (breaks l.cpu) (drop l.breakpoint-index l.breakpoints) ≡ find (breaks l.cpu) l.breakpoints

@@ -1,6 +1,0 @@
-use Rattle.std.proofs.Common.{◌≡◌, ◌++◌, drop, map}
-use Rattle.debugger.specs.Printing.Memory.{shown_character}
-use Rattle.debugger.proofs.text.put_characters.Given as goal
-
-abbrev pub invariant-loop-byte : goal.invariant-loop-byte
-invariant-loop-byte l = l.text.items ++ map shown_character (drop l.byte-index l.bytes) ≡ l.initial.text.items ++ map shown_character l.bytes

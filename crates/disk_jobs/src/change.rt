@@ -1,0 +1,30 @@
+//! Ends a command that changes an image.
+
+ghost use Rattle.z80dev_finish.specs.Files.{IsFree};
+ghost use Rattle.disk_jobs.specs.Private.Images.{ChangesInto};
+
+use crate::names::refusal_end;
+use claimed_images::{Image, keep};
+use std::alloc::Global;
+use z80dev_disk::Refusal;
+use z80dev_finish::{End, Files};
+
+/// Ends a command that changes a claimed image. If all is done, the result is its warnings.
+pub(crate) fn change<'a, F: Files>(
+    alloc: Global,
+    path: &'a str,
+    image: Image,
+    made: Result<Vec<u8>, Refusal>,
+    files: &mut F,
+) -> Result<Option<String>, End<'a>>
+    requires free { IsFree (F.folder files.old) path.now }
+    ensures { ChangesInto path.now image made (F.folder files.old) (F.folder files.new) result }
+{
+    match made {
+        Ok(made) => {
+            keep(path, &image.bytes, &made, files)?;
+            Ok(image.warnings)
+        }
+        Err(why) => Err(refusal_end(alloc, why)),
+    }
+}

@@ -1,9 +1,0 @@
-use Rattle.std.proofs.Common.{◌≡◌, drop}
-use Rattle.asm_scan.specs.Tokens.{lexemes}
-use Rattle.asm_replace.specs.Pieces.{behind_all}
-use Rattle.error_messages.proofs.place.behind.Given as goal
-
--- What comes after the tokens that are left is what comes after all of them.
-abbrev pub invariant-loop-token : goal.invariant-loop-token
-invariant-loop-token l =
-    behind_all l.line (lexemes l.tokens) ≡ behind_all l.rest (lexemes (drop l.token-index l.tokens))

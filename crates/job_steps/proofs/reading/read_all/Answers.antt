@@ -1,0 +1,33 @@
+use Rattle.std.proofs.Common.{◌<◌, ◌∙◌, List, ℕ, [], length, map, get_or, refl, sym, subst, arith}
+use Rattle.std.proofs.lemmas.List.{get_or-map, length-map, map_push}
+use Rattle.shared_lines.proofs.In_order.{one_more}
+use Rattle.job_steps.specs.Reading.{IsNotRead, IsRead}
+use Rattle.job_steps.proofs.One_by_one.{one_unread}
+use Rattle.job_steps.proofs.reading.read_all.Goals as goal
+
+pub returns-in_err-text : goal.returns-in_err-text
+returns-in_err-text g c =
+    let mid = g.F.Files.folder c.loop-path.files in
+    let new = g.F.Files.folder c.read.new.files in
+    let paths : List (List ℕ) = map (λ path. path.now) c.args.paths.now in
+    let k = c.loop-path.path-index in
+    let lt : k < length paths = omega (arith, length-map c.args.paths.now (λ path. path.now)) in
+    let at = get_or-map (λ path. path.now) c.args.paths.now k _ [] c.loop-path-test.true in
+    one_unread (g.F.Files.folder c.args.files.now) mid new paths (map (λ text. text.items) c.loop-path.texts.items) k (get_or paths k []) c.in_err-text.field-0.0
+    c.from_residual-in_err-text.result c.loop-path.invariant.0 lt refl c.loop-path.invariant.1 (subst (λ path. IsNotRead mid new path c.in_err-text.field-0.0) (sym at) c.in_err-text.ensures)
+    c.from_residual-in_err-text.ensures.1
+
+pub loop-path-preserved : goal.loop-path-preserved
+loop-path-preserved g c =
+    let old = g.F.Files.folder c.args.files.now in
+    let paths : List (List ℕ) = map (λ path. path.now) c.args.paths.now in
+    let k = c.loop-path.path-index in
+    let lt : k < length paths = omega (arith, length-map c.args.paths.now (λ path. path.now)) in
+    let at = get_or-map (λ path. path.now) c.args.paths.now k _ [] c.loop-path-test.true in
+    let read = c.in_ok-text.ensures in
+    let bytes = c.in_ok-text.text.items in
+    let is = subst (λ f. IsRead f (get_or paths k []) bytes) c.loop-path.invariant.0 (subst (λ path. IsRead (g.F.Files.folder c.loop-path.files) path bytes) (sym at) read.1) in (
+      read.0 ∙ c.loop-path.invariant.0,
+      one_more (IsRead old) paths k [] (map (λ text. text.items) c.loop-path.texts.items) (map (λ text. text.items) c.push.new.self.items) bytes lt c.loop-path.invariant.1 is
+          (rw (c.in-Ok.ensures.items, map_push) refl),
+    )

@@ -1,0 +1,4 @@
+pub mod World
+pub mod Reading
+pub mod Ending
+pub mod Reporting

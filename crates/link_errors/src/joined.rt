@@ -1,0 +1,129 @@
+//! Finds lines of sources by the names that they define or declare.
+
+use asm_module::{SourceLine, SourceText, read_source};
+use asm_spell::{Body, Line};
+use common::NameKey;
+use indexmap::IndexMap;
+use report_texts::Where;
+use std::alloc::{AllocError, Global};
+use written_lines::Sources;
+
+/// Numbers of lines by names in upper case.
+type Lines = IndexMap<Vec<u8>, u32, NameKey>;
+
+/// The first lines of a source that have or declare each name.
+#[derive(Drop)]
+pub(crate) struct NameLines {
+    labels: Lines,
+    externals: Lines,
+}
+
+/// Keeps the line of a name, unless an earlier one has it.
+fn keep(lines: &mut Lines, name: &[u8], number: u32, alloc: Global) -> Result<(), AllocError> {
+    if lines.get(name).is_none() {
+        lines.insert(name.to_vec(alloc)?, number)?;
+    }
+    Ok(())
+}
+
+/// Answers the lines of the expansion of a source that has no error.
+fn read(alloc: Global, text: &[u8]) -> Result<Vec<SourceLine>, AllocError> {
+    match read_source(alloc, text) {
+        Ok(SourceText { lines, .. }) => Ok(lines),
+        Err(_) => Err(AllocError),
+    }
+}
+
+impl NameLines {
+    /// Keeps the names of a line.
+    fn add(&mut self, alloc: Global, line: &SourceLine) -> Result<(), AllocError> {
+        let Line::Statement { label, body } = &line.line else {
+            return Ok(());
+        };
+        if let Some(label) = label {
+            keep(&mut self.labels, label, line.number, alloc)?;
+        }
+        if let Some(Body::External(names)) = body {
+            for name in names {
+                keep(&mut self.externals, name, line.number, alloc)?;
+            }
+        }
+        Ok(())
+    }
+
+    /// Finds the lines of all names of a source that has no error.
+    pub(crate) fn of(alloc: Global, text: &[u8]) -> Result<NameLines, AllocError> {
+        let key = NameKey::of(text);
+        let mut names = NameLines {
+            labels: IndexMap::with_hasher(alloc, key),
+            externals: IndexMap::with_hasher(alloc, key),
+        };
+        for line in &read(alloc, text)? {
+            names.add(alloc, line)?;
+        }
+        Ok(names)
+    }
+
+    /// The line that has this label; 1 if there is none.
+    pub(crate) fn label(&self, name: &[u8]) -> u32 {
+        self.labels.get(name).copied().unwrap_or(1)
+    }
+
+    /// The EXTRN that declares this name; 1 if there is none.
+    pub(crate) fn external(&self, name: &[u8]) -> u32 {
+        self.externals.get(name).copied().unwrap_or(1)
+    }
+}
+
+/// A directive that is looked for.
+#[derive(Clone, Copy)]
+pub(crate) enum Sought {
+    Origin,
+    End,
+}
+
+impl Sought {
+    /// The word that is marked in the line.
+    fn word(self) -> &'static [u8] {
+        match self {
+            Sought::Origin => b"ORG",
+            Sought::End => b"END",
+        }
+    }
+
+    /// Whether a line is the one that is looked for.
+    fn is_in(self, line: &Line) -> bool {
+        let Line::Statement {
+            body: Some(body),
+            ..
+        } = line
+        else {
+            return false;
+        };
+        match (self, body) {
+            (Sought::Origin, Body::Origin(_)) | (Sought::End, Body::End(_)) => true,
+            _ => false,
+        }
+    }
+}
+
+/// Answers the number of the first line that is looked for; 1 if there is none.
+fn number_of(lines: &[SourceLine], sought: Sought) -> u32 {
+    for line in lines {
+        if sought.is_in(&line.line) {
+            return line.number;
+        }
+    }
+    1
+}
+
+/// Answers where in a source the directive is that is looked for.
+pub(crate) fn find<'f>(
+    alloc: Global,
+    sources: &Sources<'_, 'f>,
+    source: usize,
+    sought: Sought,
+) -> Result<Where<'f>, AllocError> {
+    let line = number_of(&read(alloc, sources.text(source))?, sought);
+    sources.named(alloc, source, line, sought.word())
+}

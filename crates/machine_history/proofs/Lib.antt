@@ -1,0 +1,8 @@
+pub mod Going
+mod Turning
+mod Recorded
+mod AsRun
+mod AsSession
+mod Held
+pub mod OneState
+pub mod OneStop

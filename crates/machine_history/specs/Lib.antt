@@ -1,0 +1,7 @@
+pub mod Coming
+pub mod Walk
+pub mod Calls
+pub mod Stops
+pub mod Going
+pub mod Alike
+pub mod Private

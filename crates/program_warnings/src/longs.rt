@@ -1,0 +1,127 @@
+//! Says why jumps of a program are long.
+
+ghost use Rattle.std.specs.Prelude.{All, map};
+ghost use Rattle.zmo_module.specs.Modules.{module_of};
+ghost use Rattle.zmo_module.specs.Rules.{IsModule};
+
+use jump_reasons::{JoinFault, LongJump, LongJumps, find_long_jumps};
+use message_texts::{Note, shown};
+use report_texts::{Report, Severity};
+use std::alloc::{AllocError, Global};
+use written_lines::{Expansions, Site, Sources, mentioned};
+use zlink::Built;
+
+/// The long jumps of a program, and what is needed to name them.
+#[derive(Drop)]
+struct Named<'b, 's, 'f> {
+    sources: &'b Sources<'s, 'f>,
+    built: &'b Built,
+    sites: Vec<jump_reasons::Site>,
+    expansions: Expansions,
+}
+
+impl<'b, 's, 'f> Named<'b, 's, 'f> {
+    /// The name of the target of a jump in this line: a label of the statement, or of the end of the last module.
+    fn name(&self, alloc: Global, line: &[u8], statement: u32) -> Result<&'b [u8], AllocError> {
+        let modules = self.built.modules.as_slice();
+        let (module, own) = match self.sites.get(statement as usize) {
+            Some(site) => (modules.get(site.module), site.statement),
+            None => match modules.last() {
+                Some(last) => (Some(last), last.statements.len()),
+                None => (None, 0),
+            },
+        };
+        match module {
+            Some(module) => mentioned(alloc, line, module, own),
+            None => Ok(b"$"),
+        }
+    }
+
+    /// Where a statement of the program is written that building reports by this line of a source.
+    fn site(&self, statement: u32, source: usize, line: u32) -> Site<'_> {
+        match self.sites.get(statement as usize) {
+            Some(site) => self
+                .expansions
+                .site(self.sources, source, site.statement, line),
+            None => Site::plain(line, self.sources.line(source, line)),
+        }
+    }
+
+    /// Appends `PATH:LINE` of a statement, after a comma if it is not the first.
+    fn put_line(&self, alloc: Global, out: &mut String, statement: u32) -> Result<(), AllocError> {
+        let Some(origin) = self.built.statements.get(statement as usize) else {
+            return Ok(());
+        };
+        let own = self.sources.located(origin.source, origin.line);
+        let (path, line) = (own.path, own.line);
+        let comma = if out.is_empty() { "" } else { ", " };
+        out.push_str(&format!(in alloc; "{comma}{path}:{line}")?)
+    }
+
+    /// Answers the lines of the jumps that are the reason for a long jump, or that there are none.
+    fn reason(&self, alloc: Global, jump: &LongJump) -> Result<Note, AllocError> {
+        let mut lines = String::new(alloc);
+        for statement in &jump.reason {
+            self.put_line(alloc, &mut lines, *statement)?;
+        }
+        let text = match jump.reason.len() {
+            0 => String::from_str(alloc, "it would be long even if all other jumps were short")?,
+            1 => format!(in alloc; "the jump between that is long, at {lines}, is the reason")?,
+            _ => format!(in alloc; "the jumps between that are long, at {lines}, are the reason")?,
+        };
+        Ok(Note::Note(text))
+    }
+
+    /// Answers the report of a long jump.
+    fn report(&self, alloc: Global, jump: &LongJump) -> Result<Report<'f>, AllocError> {
+        let (source, line) = match self.built.statements.get(jump.statement as usize) {
+            Some(origin) => (origin.source, origin.line),
+            None => (0, 0),
+        };
+        let site = self.site(jump.statement, source, line);
+        let target = self.name(alloc, site.text, jump.target)?;
+        let at = Some(self.sources.mark(alloc, source, site, target)?);
+        let name = site.own_text(alloc, &shown(alloc, target)?)?;
+        let reach = jump.text(alloc, &name)?;
+        let mut notes = Vec::new(alloc);
+        notes.push(self.reason(alloc, jump)?)?;
+        self.sources.put_calls(alloc, source, site, &mut notes)?;
+        Ok(Report {
+            severity: Severity::Note,
+            at,
+            text: format!(in alloc; "this jump takes 3 bytes: {reach}")?,
+            name: String::new(alloc),
+            notes,
+        })
+    }
+}
+
+/// Answers a report of each long jump of a program. Those come first that are the fewest bytes too long.
+///
+/// # Errors
+///
+/// [`AllocError`] if memory ran out.
+pub fn long_jumps_of<'f>(
+    alloc: Global,
+    sources: &Sources<'_, 'f>,
+    built: &Built,
+) -> Result<Vec<Report<'f>>, AllocError>
+    requires { All IsModule (map module_of built.now.modules.items) }
+{
+    let LongJumps { jumps, sites } = match find_long_jumps(alloc, &built.modules) {
+        Ok(found) => found,
+        Err(JoinFault::NoMemory) => return Err(AllocError),
+        Err(_) => return Ok(Vec::new(alloc)),
+    };
+    let named = Named {
+        sources,
+        built,
+        sites,
+        expansions: Expansions::of(alloc, sources)?,
+    };
+    let mut reports = Vec::new(alloc);
+    for jump in &jumps {
+        reports.push(named.report(alloc, jump)?)?;
+    }
+    Ok(reports)
+}

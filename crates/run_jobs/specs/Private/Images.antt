@@ -1,0 +1,18 @@
+-- How the image of the disk of a run is claimed.
+use Rattle.std.specs.Prelude.{ℕ, Bool, List, Option, None, Some, Result, Ok, Err}
+use Rattle.std.specs.Borrow.{Bor}
+use Rattle.z80dev_finish.specs.Files.{Folder, IsFree}
+use Rattle.z80dev_finish.specs.declared.end.End.{End}
+use Rattle.run_jobs.specs.Running.{ClaimsDisk, IsDiskNotClaimed}
+use Rattle.claimed_images.specs.declared.image.Image.{Image}
+use Rattle.claimed_images.specs.Claims.{image_lines}
+
+-- the image of the disk of a run is claimed, if there is one
+abbrev pub ClaimsDiskImage : Option (Bor (List ℕ)) → Bool → Folder → Folder → Result Image End → Type 0
+ClaimsDiskImage disk wanted old new (Ok image) = ClaimsDisk disk wanted old new image.bytes.items (image_lines image)
+ClaimsDiskImage disk wanted old new (Err e) = IsDiskNotClaimed disk old new e
+
+-- a file may be written beside the image of the disk of a run, if there is one
+abbrev pub IsFreeOf : Option (Bor (List ℕ)) → Folder → Type 0
+IsFreeOf None f = Unit {0}
+IsFreeOf (Some path) f = IsFree f path.now

@@ -1,0 +1,6 @@
+pub mod Faulty
+pub mod Lines
+pub mod Named
+pub mod In_order
+pub mod Numbers
+pub mod Refused

@@ -1,0 +1,26 @@
+use Rattle.std.proofs.Common.{map, length, refl, ap, ◌∙◌}
+use Rattle.std.proofs.lemmas.List.{length-map, with_items_is}
+use Rattle.shared_lines.specs.Behind.{earlier_origin}
+use Rattle.shared_lines.specs.Front.{earlier, front_lines}
+use Rattle.shared_lines.proofs.behind.with_own_lines.Goals as goal
+
+pub returns : goal.returns
+returns c =
+    let all = front_lines c.args.front in
+    let origins = c.number_origins.ensures all c.front_lines-lines.ensures in
+    let lines = c.number_lines.ensures all c.front_lines-lines.ensures in
+    record {
+      file = refl;
+      sizes = refl;
+      cert = refl;
+      symbols = refl;
+      grown = refl;
+      modules = refl;
+      lines = refl;
+      statements =
+          with_items_is c.args.built.statements c.number_origins.new.origins (ap length origins ∙ length-map c.deref_mut.result.now (earlier_origin all) ∙ c.deref_mut.ensures.len)
+          ∙ origins ∙ ap (map (earlier_origin all)) c.deref_mut.ensures.value;
+      last =
+          with_items_is c.args.built.last c.number_lines.new.numbers (ap length lines ∙ length-map c.deref_mut-2.result.now (earlier all) ∙ c.deref_mut-2.ensures.len)
+          ∙ lines ∙ ap (map (earlier all)) c.deref_mut-2.ensures.value;
+    }

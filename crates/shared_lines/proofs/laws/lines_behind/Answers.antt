@@ -1,0 +1,8 @@
+use Rattle.shared_lines.proofs.Lines.{behind, count}
+use Rattle.shared_lines.proofs.laws.lines_behind.Goals as goal
+
+pub returns-clause-behind : goal.returns-clause-behind
+returns-clause-behind c = behind
+
+pub returns-clause-count : goal.returns-clause-count
+returns-clause-count c = count

@@ -1,0 +1,14 @@
+//! Writes registers, memory and addresses as text, and finds labels and registers by their names.
+#![tactic(auto)]
+
+mod breakpoint;
+mod labels;
+mod printing;
+mod registers;
+
+pub use breakpoint::{Breakpoint, Condition};
+pub use labels::{Labels, Symbol, put_label};
+pub use printing::{
+    put_blanks, put_characters, put_column, put_memory, put_number, put_registers, put_word,
+};
+pub use registers::{RegisterName, is_same_name, register_limit, register_named};

@@ -1,6 +1,0 @@
-use Rattle.std.proofs.Common.{◌≡◌, ◌++◌, drop, map}
-use Rattle.z80dev_explain.specs.Printed.{below}
-use Rattle.z80dev_explain.proofs.printing.put_below.Given as goal
-
-abbrev pub invariant-loop-byte : goal.invariant-loop-byte
-invariant-loop-byte l = l.out.items ++ map below (drop l.byte-index l.text) ≡ l.fn.out.items ++ map below l.text

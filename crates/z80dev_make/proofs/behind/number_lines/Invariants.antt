@@ -1,7 +1,0 @@
-use Rattle.std.proofs.Common.{◌≡◌, ℕ}
-use Rattle.z80dev_make.specs.Front.{CountsLines, earlier}
-use Rattle.z80dev_make.proofs.Numbers.{front_changed}
-use Rattle.z80dev_make.proofs.behind.number_lines.Given as goal
-
-abbrev pub invariant-loop-number : goal.invariant-loop-number
-invariant-loop-number l = (all : ℕ) → CountsLines l.lines all → l.numbers ≡ front_changed (earlier all) l.initial.numbers l.number-index

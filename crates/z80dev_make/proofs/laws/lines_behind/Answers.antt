@@ -1,8 +1,0 @@
-use Rattle.z80dev_make.proofs.Lines.{behind, count}
-use Rattle.z80dev_make.proofs.laws.lines_behind.Goals as goal
-
-pub returns-clause-behind : goal.returns-clause-behind
-returns-clause-behind c = behind
-
-pub returns-clause-count : goal.returns-clause-count
-returns-clause-count c = count

@@ -1,0 +1,92 @@
+//! How often the keyboard is looked at.
+
+ghost use Rattle.std.specs.Prelude.{◌≡◌, false, true};
+ghost use Rattle.z80dev_run.specs.Private.Rhythm.{after_asking, is_due, is_put_off, pause};
+
+use crate::desk::Keys;
+use cpm_run::Patience;
+
+/// How many steps a program makes between two looks at the keyboard, if it has shown something or got a byte since the last. A look may take a
+/// tenth of a second, so a program that looks for a key all the time runs at about 40 times the speed of a Z80 of 4 MHz.
+const BUSY: u64 = 2_000_000;
+
+/// The same if it has not. Then nearly all the time is spent in waiting, so that a program that only looks for a key leaves the processor free.
+const IDLE: u64 = 200_000;
+
+/// By lines, a program that shows something between any two looks is given what has come after this number of steps. It may have to wait for a
+/// line then, so this is half a second and more.
+const LONGEST_BUSY: u64 = 100_000_000;
+
+/// When the keyboard was looked at, and whether something has happened since.
+#[derive(Clone, Copy)]
+pub(crate) struct Rhythm {
+    /// How many steps were made before the last look.
+    looked: u64,
+    /// How many steps were made before the last read.
+    heard: u64,
+    /// Whether something was shown, or came, since the last read.
+    is_busy: bool,
+}
+
+impl Rhythm {
+    /// Before the first step of a program, which counts as busy.
+    pub(crate) fn new() -> Rhythm
+        ensures looked { result.looked ≡ 0 }
+        ensures heard { result.heard ≡ 0 }
+    {
+        Rhythm {
+            looked: 0,
+            heard: 0,
+            is_busy: true,
+        }
+    }
+
+    /// Notes that something was shown, or came.
+    pub(crate) fn work(&mut self)
+        ensures { self.new ≡ record self.old { is_busy = true } }
+    {
+        self.is_busy = true;
+    }
+
+    /// Notes a read after this number of steps.
+    pub(crate) fn read_at(&mut self, turns: u64)
+        ensures { self.new ≡ record { looked = turns; heard = turns; is_busy = false } }
+    {
+        self.looked = turns;
+        self.heard = turns;
+        self.is_busy = false;
+    }
+
+    /// Whether a read by lines is put off, since it may last until a line comes and the program does something meanwhile.
+    fn is_put_off(self, keys: Keys, turns: u64) -> bool
+        ensures { result ≡ is_put_off keys self turns }
+    {
+        keys == Keys::Lines && self.is_busy && turns.saturating_sub(self.heard) < LONGEST_BUSY
+    }
+
+    /// How many steps there are between two looks.
+    fn pause(self) -> u64
+        ensures { result ≡ pause self }
+    {
+        if self.is_busy { BUSY } else { IDLE }
+    }
+
+    /// Whether the keyboard is to be looked at now. A look may last until a line comes if keys come by lines. So then nobody looks for a person
+    /// who wants to leave, which lines cannot say, and if the program asks for keys, it has to be idle, or to have been busy for long.
+    pub(crate) fn is_due(&mut self, keys: Keys, turns: u64, patience: Patience) -> bool
+        ensures due { result ≡ is_due keys self.old turns patience }
+        ensures next { self.new ≡ after_asking keys self.old turns patience }
+    {
+        match patience {
+            Patience::Wait => return true,
+            Patience::Glance if keys == Keys::Lines => return false,
+            Patience::Glance | Patience::Poll => {}
+        }
+        if self.is_put_off(keys, turns) {
+            self.looked = turns;
+            self.is_busy = false;
+            return false;
+        }
+        turns.saturating_sub(self.looked) >= self.pause()
+    }
+}
