@@ -86,12 +86,28 @@ ReadsLines from left lines is_over =
 abbrev pub TalksThrough : Known → List ℕ → Option (List ℕ) → Option (List ℕ) → SessionState → SessionState → Stream → Stream → Type 0
 TalksThrough known listing from left old new before after = (lines : List (List ℕ)) × ReadsLines from left lines new.is_over × TalksOn known listing lines old new before after
 
+-- The lines that had ended in what was read were obeyed, and their answers were printed.
+abbrev pub TalksSoFar : Known → List ℕ → Option (List ℕ) → Option (List ℕ) → SessionState → SessionState → Stream → Stream → Type 0
+TalksSoFar known listing from left old new before after =
+    (bytes : List ℕ) × (lines : List (List ℕ)) × (rest : List ℕ) × Consumes from left bytes × BeginsLines bytes lines rest × HasNoEnd rest × TalksOn known listing lines old new before after
+
+-- A session of this program with its words, on a disk, with what is typed before it starts and with the bytes of a record, that was led from its
+-- beginning and without breakpoints as is said.
+abbrev pub IsLedFrom : List ℕ → List (List ℕ) → Mounted Image → List ℕ → List Arrival → (SessionState → SessionState → Type 0) → Type 0
+IsLedFrom file words disk input recorded Leads =
+    (first : Shown) × (stops : Stops) × (last : SessionState) × IsFirstShown file words disk (dialog_of input (Some []) 0) recorded first
+    × (stops.breakpoints.items ≡ []) × (stops.watches.items ≡ []) × Leads (record { shown = first; stops = stops; is_over = false }) last
+
+-- The input failed, or had no end after the most reads. What was read before was answered.
+abbrev pub DebugsSoFar : List ℕ → List (List ℕ) → Mounted Image → List ℕ → List Arrival → Known → List ℕ → Option (List ℕ) → Option (List ℕ) → Stream → Stream → Type 0
+DebugsSoFar file words disk input recorded known listing from left before after =
+    IsLedFrom file words disk input recorded (λ first last. TalksSoFar known listing from left first last before after)
+
 -- A program was debugged with its words, on a disk, with what is typed before it starts and with the bytes of a record, from its beginning and
 -- without breakpoints, by the lines of an input; and the answers were printed.
 abbrev pub DebugsTo : List ℕ → List (List ℕ) → Mounted Image → List ℕ → List Arrival → Known → List ℕ → Option (List ℕ) → Option (List ℕ) → Stream → Stream → Type 0
 DebugsTo file words disk input recorded known listing from left before after =
-    (first : Shown) × (stops : Stops) × (last : SessionState) × IsFirstShown file words disk (dialog_of input (Some []) 0) recorded first
-    × (stops.breakpoints.items ≡ []) × (stops.watches.items ≡ []) × TalksThrough known listing from left (record { shown = first; stops = stops; is_over = false }) last before after
+    IsLedFrom file words disk input recorded (λ first last. TalksThrough known listing from left first last before after)
 
 -- a program can be started with its words
 abbrev pub Starts : List ℕ → List (List ℕ) → Type 0

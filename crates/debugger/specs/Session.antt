@@ -100,6 +100,6 @@ AnswersAs (Err refused) known listing shown stops over new there is_over text = 
 abbrev pub IsSameRun : Shown → Shown → Type 0
 IsSameRun old new = (new.start ≡ old.start) × IsTrue_of_run new
 
--- A line is answered by what it means, and what is shown stays true of the run.
+-- A line is answered by what it means in the state that is shown, and what is shown later stays true of the run.
 abbrev pub Obeys : Known → List ℕ → List ℕ → Shown → Stops → Bool → Shown → Stops → Bool → List ℕ → Type 0
-Obeys known listing line shown stops over new there is_over text = IsSameRun shown new × AnswersAs (line_meaning known line) known listing shown stops over new there is_over text
+Obeys known listing line shown stops over new there is_over text = IsSameRun shown new × AnswersAs (line_meaning known shown.point.state.machine.cpu line) known listing shown stops over new there is_over text

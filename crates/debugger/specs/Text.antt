@@ -26,7 +26,7 @@ use Rattle.debugger.specs.Instructions.{WritesCode, WritesInstruction}
 use Rattle.state_text.specs.Labelled.{Known, labelled_address}
 use Rattle.machine_history.specs.Stops.{IsLast}
 use Rattle.state_text.specs.RegisterNames.{register_name}
-use Rattle.debugger_commands.specs.Typed.{verb_name}
+use Rattle.debugger_commands.specs.Typed.{argument_forms, verb_name}
 use Rattle.machine_history.specs.Walk.{Shown}
 
 -- ---- breakpoints and watched bytes
@@ -144,12 +144,17 @@ since before now = drop (length before) now
 abbrev pub most_turns : ℕ
 most_turns = 100000000
 
--- why such a command has stopped before the end of the run, unless it has come to where it was to come
-abbrev pub outcome_text : Known → Option Outcome → List ℕ
-outcome_text known (Some (outcome.Held (hit.Breakpoint address))) = codes "breakpoint " ++ labelled_address known address ++ codes "\n"
-outcome_text known (Some (outcome.Held (hit.Changed change))) = codes "watch " ++ change_line known change
-outcome_text known (Some outcome.Limit) = codes "limit of " ++ decimal most_turns ++ codes " turns\n"
-outcome_text known told = []
+-- what `back-run` says if it has come to the start and nothing held on the way
+abbrev pub nothing_held : List ℕ
+nothing_held = codes "nothing held before: this is the start\n"
+
+-- Why such a command has stopped before the end of the run, unless it has come to where it was to come. `none` is said if nothing stopped it.
+abbrev pub outcome_text : Known → List ℕ → Option Outcome → List ℕ
+outcome_text known none (Some (outcome.Held (hit.Breakpoint address))) = codes "breakpoint " ++ labelled_address known address ++ codes "\n"
+outcome_text known none (Some (outcome.Held (hit.Changed change))) = codes "watch " ++ change_line known change
+outcome_text known none (Some outcome.Limit) = codes "limit of " ++ decimal most_turns ++ codes " turns\n"
+outcome_text known none None = none
+outcome_text known none told = []
 
 -- What is there: why the run has ended; or the instruction.
 abbrev pub WritesPoint : Option Why → Machine → List ℕ → Type 0
@@ -161,10 +166,10 @@ abbrev pub point_line : Known → ℕ → ℕ → List ℕ → List ℕ
 point_line known turn pc what = codes "turn " ++ decimal turn ++ codes " at " ++ labelled_address known pc ++ codes ": " ++ what ++ codes "\n"
 
 -- What the program has printed since, why the command has stopped, and what is shown now.
-abbrev pub SaysWhere : Option Outcome → Shown → Shown → Known → List ℕ → Type 0
-SaysWhere told old new known text =
+abbrev pub SaysWhere : List ℕ → Option Outcome → Shown → Shown → Known → List ℕ → Type 0
+SaysWhere none told old new known text =
     (before : List ℕ) × (now : List ℕ) × (what : List ℕ) × Printed old before × Printed new now × WritesPoint new.point.end new.point.state.machine what
-    × (text ≡ output_text (since before now) ++ outcome_text known told ++ point_line known new.turn new.point.state.machine.cpu.pc what)
+    × (text ≡ output_text (since before now) ++ outcome_text known none told ++ point_line known new.turn new.point.state.machine.cpu.pc what)
 
 -- ---- the stack
 
@@ -182,11 +187,11 @@ stack_text known memory sp = flat_map (λ offset. stack_word_line known memory (
 
 -- ---- the list of `help`
 
--- The lines begin with the names of these commands, in this order, each with a blank after it. Lines may follow that name none.
+-- The lines begin with these commands in their forms, in this order, each with a blank after it. Lines may follow that are of no command.
 abbrev pub ListsVerbs : List Verb → List (List ℕ) → Type 0
 ListsVerbs [] lines = Unit {0}
 ListsVerbs (verb ∷ rest) [] = ⊥
-ListsVerbs (verb ∷ rest) (line ∷ lines) = (starts_with nat_eq line (verb_name verb ++ codes " ") ≡ true) × ListsVerbs rest lines
+ListsVerbs (verb ∷ rest) (line ∷ lines) = (starts_with nat_eq line (verb_name verb ++ argument_forms verb ++ codes " ") ≡ true) × ListsVerbs rest lines
 
 -- ---- what a command prints, given the breakpoints and watched bytes before it, how it ended, and what is shown before and after it. Of
 -- `files` this says nothing.
@@ -204,12 +209,12 @@ Says command.Stack stops told old shown known listing text = text ≡ stack_text
 Says command.Help stops told old shown known listing text = text ≡ HELP.now
 Says command.Quit stops told old shown known listing text = text ≡ []
 Says command.Output stops told old shown known listing text = (bytes : List ℕ) × Printed shown bytes × (text ≡ output_text bytes)
-Says (command.Step count) stops told old shown known listing text = SaysWhere told old shown known text
-Says (command.Back count) stops told old shown known listing text = SaysWhere told old shown known text
-Says (command.Turn turn) stops told old shown known listing text = SaysWhere told old shown known text
-Says (command.Run address) stops told old shown known listing text = SaysWhere told old shown known text
-Says command.Next stops told old shown known listing text = SaysWhere told old shown known text
-Says command.Finish stops told old shown known listing text = SaysWhere told old shown known text
-Says command.BackRun stops told old shown known listing text = SaysWhere told old shown known text
-Says command.BackNext stops told old shown known listing text = SaysWhere told old shown known text
+Says (command.Step count) stops told old shown known listing text = SaysWhere [] told old shown known text
+Says (command.Back count) stops told old shown known listing text = SaysWhere [] told old shown known text
+Says (command.Turn turn) stops told old shown known listing text = SaysWhere [] told old shown known text
+Says (command.Run address) stops told old shown known listing text = SaysWhere [] told old shown known text
+Says command.Next stops told old shown known listing text = SaysWhere [] told old shown known text
+Says command.Finish stops told old shown known listing text = SaysWhere [] told old shown known text
+Says command.BackRun stops told old shown known listing text = SaysWhere nothing_held told old shown known text
+Says command.BackNext stops told old shown known listing text = SaysWhere [] told old shown known text
 Says command.Files stops told old shown known listing text = Unit {0}

@@ -1,8 +1,9 @@
 //! Reads commands and prints their answers.
 
-ghost use Rattle.std.specs.Prelude.{◌≡◌, ◌+◌, ◌<◌, ◌≤◌, ◌∷◌, [], IfOk, List, ℕ, false};
-ghost use Rattle.std.specs.Io.KnownBytes.{Appends};
-ghost use Rattle.debugger.specs.Conversation.{Converses, HasNoEnd, PrintsOrFails, ReadsOn, TalksThrough};
+ghost use Rattle.std.specs.Prelude.{◌≡◌, ◌+◌, ◌<◌, ◌≤◌, ◌∷◌, [], Err, IfOk, List, ℕ, false};
+ghost use Rattle.std.specs.Io.KnownBytes.{Appends, Consumes};
+ghost use Rattle.debugger.specs.declared.conversation.Broken.TheVariants as broken;
+ghost use Rattle.debugger.specs.Conversation.{Converses, HasNoEnd, PrintsOrFails, ReadsOn, TalksSoFar, TalksThrough};
 ghost use Rattle.debugger.specs.Private.Lines.{GetsLines, TakesAllLines, TakesLines};
 ghost use Rattle.debugger.specs.Session.{Obeys};
 ghost use Rattle.machine_history.specs.Walk.{IsTrue_of_run};
@@ -143,6 +144,7 @@ fn read_some<I: Input, O: Sink>(
     ensures listing { session.new.listing ≡ session.old.listing }
     ensures reads { I.reads input.new ≡ I.reads input.old + 1 }
     ensures ends { ReadsOn (O.stream output.old) (O.stream output.new) (I.failed input.new) result }
+    ensures unread { result ≡ Err broken.Input → (session.new ≡ session.old) × (output.new ≡ output.old) × Consumes (I.remaining input.old) (I.remaining input.new) [] }
     ensures talks { IfOk result (λ ended. GetsLines session.old.labels session.old.listing.now (I.remaining input.old) (I.remaining input.new) line.old.items line.new.items (record { shown = session.old.history; stops = session.old.stops; is_over = session.old.is_over }) (record { shown = session.new.history; stops = session.new.stops; is_over = session.new.is_over }) (O.stream output.old) (O.stream output.new) ended) }
 {
     let mut chunk = [0; CHUNK];
@@ -178,6 +180,7 @@ pub fn converse<I: Input, O: Sink>(
     ensures after { IsTrue_of_run session.new.history }
     ensures converses { Converses (O.stream output.old) (O.stream output.new) (I.failed input.new) (I.reads input.new) result }
     ensures reads { I.reads input.new ≤ MOST_READS }
+    ensures so_far { result ≡ Err broken.Input → TalksSoFar session.old.labels session.old.listing.now (I.remaining input.old) (I.remaining input.new) (record { shown = session.old.history; stops = session.old.stops; is_over = session.old.is_over }) (record { shown = session.new.history; stops = session.new.stops; is_over = session.new.is_over }) (O.stream output.old) (O.stream output.new) }
     ensures talks { IfOk result (λ _. TalksThrough session.old.labels session.old.listing.now (I.remaining input.old) (I.remaining input.new) (record { shown = session.old.history; stops = session.old.stops; is_over = session.old.is_over }) (record { shown = session.new.history; stops = session.new.stops; is_over = session.new.is_over }) (O.stream output.old) (O.stream output.new)) }
 {
     let mut line = Vec::new(alloc);

@@ -1,7 +1,9 @@
 //! Debugs a program.
 
-ghost use Rattle.std.specs.Prelude.{◌≡◌, ◌≤◌, IfOk, false, length, map};
-ghost use Rattle.debugger.specs.Conversation.{Debugs, DebugsTo};
+ghost use Rattle.std.specs.Prelude.{◌≡◌, ◌≤◌, Err, IfOk, false, length, map};
+ghost use Rattle.debugger.specs.Conversation.{Debugs, DebugsSoFar, DebugsTo};
+ghost use Rattle.debugger.specs.declared.conversation.Broken.TheVariants as broken;
+ghost use Rattle.debugger.specs.declared.debugging.DebugFault.TheVariants as debug;
 ghost use Rattle.state_text.specs.Labelled.{symbol_parts};
 
 use crate::conversation::{Broken, MOST_READS, converse};
@@ -54,6 +56,7 @@ pub fn debug<I: Input, O: Sink>(
     ensures debugs { Debugs program.entry.file.now (map (λ w. w.now) program.entry.words.now) (O.stream output.old) (O.stream output.new) (I.failed commands.new) (I.reads commands.new) result }
     ensures reads { I.reads commands.new ≤ MOST_READS }
     ensures debugged { IfOk result (λ _. DebugsTo program.entry.file.now (map (λ w. w.now) program.entry.words.now) program.entry.disk program.entry.typed.items program.entry.recorded.now (record { labels = map symbol_parts symbols.now; size = length program.entry.file.now }) program.entry.listing.now (I.remaining commands.old) (I.remaining commands.new) (O.stream output.old) (O.stream output.new)) }
+    ensures so_far { result ≡ Err (debug.Broken broken.Input) → DebugsSoFar program.entry.file.now (map (λ w. w.now) program.entry.words.now) program.entry.disk program.entry.typed.items program.entry.recorded.now (record { labels = map symbol_parts symbols.now; size = length program.entry.file.now }) program.entry.listing.now (I.remaining commands.old) (I.remaining commands.new) (O.stream output.old) (O.stream output.new) }
 {
     let Program {
         file,

@@ -16,12 +16,15 @@ use std::alloc::{AllocError, Global};
 /// The most turns that one command makes which runs to something: `run`, `next` or `finish`.
 pub const MOST_TURNS: u64 = 100_000_000;
 
+/// What `back-run` says if it has come to the start and nothing held on the way.
+const NOTHING_HELD: &[u8] = b"nothing held before: this is the start\n";
+
 const HELP: &[u8] = b"step [N]                  make N turns, or one
 next                      one turn, but over the whole of a call
 finish                    go on to the first return that leaves SP above what it is now
 run [ADDR]                go on to ADDR, a breakpoint, a watched byte, or the end
 back [N]                  go back by N turns, or one
-back-next                 the reverse of next: go back by one turn, but over the whole of a call
+back-next                 go back by one turn, but over the whole of a call that has returned here
 back-run                  go back to the last turn at which a breakpoint or a watched byte held
 turn N                    go to the state after N turns from the start
 where                     PC with its label, and its line of the listing
@@ -39,8 +42,9 @@ files                     the files of the disk: user, name and records
 help                      this list
 quit                      end the session
 A command may be shortened: a word stands for the first command in this list that begins with it, so s is step,
-b is back, and br is break. ADDR is a label, a label and a number as in TEXT+1, four hexadecimal digits as they
-are printed, or a number of the assembler, as 125H. A turn that writes the same value does not change a byte.
+b is back, and br is break. ADDR is a label, PC, SP, BC, DE, HL, IX or IY, each also with a number as in TEXT+1
+or SP-2, four hexadecimal digits as they are printed, or a number of the assembler, as 125H or 293. A turn that
+writes the same value does not change a byte.
 ";
 
 /// A session about one run.
@@ -339,15 +343,20 @@ impl<'a> Session<'a> {
     }
 
     /// What is printed for a command that goes to another turn, and ended so: what the program has printed since, why the command stopped,
-    /// and the turn. `printed` is how many bytes the program had printed before.
-    fn moved(&self, told: Option<Outcome>, printed: usize) -> Result<Vec<u8>, AllocError>
-        ensures { (old : Shown) (before : List ℕ) → Printed old before → printed ≡ length before → IfOk result (λ text. SaysWhere told old self.now.history self.now.labels text.items) }
+    /// or `none` if nothing stopped it, and the turn. `printed` is how many bytes the program had printed before.
+    fn moved(
+        &self,
+        none: &[u8],
+        told: Option<Outcome>,
+        printed: usize,
+    ) -> Result<Vec<u8>, AllocError>
+        ensures { (old : Shown) (before : List ℕ) → Printed old before → printed ≡ length before → IfOk result (λ text. SaysWhere none.now told old self.now.history self.now.labels text.items) }
     {
         let point = self.history.point();
         let mut text = Vec::new(self.alloc);
         let output = bytes_since(point.snapshot().output(), printed);
         put_output(self.alloc, output, &mut text)?;
-        put_outcome(self.alloc, &self.labels, told, &mut text)?;
+        put_outcome(self.alloc, &self.labels, none, told, &mut text)?;
         put_point(
             self.alloc,
             &self.labels,
@@ -429,14 +438,14 @@ impl<'a> Session<'a> {
             Command::Output => self.output(),
             Command::Files => self.files(),
             Command::Help => Ok(HELP.to_vec(self.alloc)?),
-            Command::Step(_) => self.moved(told, printed),
-            Command::Back(_) => self.moved(told, printed),
-            Command::Turn(_) => self.moved(told, printed),
-            Command::Run(_) => self.moved(told, printed),
-            Command::Next => self.moved(told, printed),
-            Command::Finish => self.moved(told, printed),
-            Command::BackRun => self.moved(told, printed),
-            Command::BackNext => self.moved(told, printed),
+            Command::Step(_) => self.moved(b"", told, printed),
+            Command::Back(_) => self.moved(b"", told, printed),
+            Command::Turn(_) => self.moved(b"", told, printed),
+            Command::Run(_) => self.moved(b"", told, printed),
+            Command::Next => self.moved(b"", told, printed),
+            Command::Finish => self.moved(b"", told, printed),
+            Command::BackRun => self.moved(NOTHING_HELD, told, printed),
+            Command::BackNext => self.moved(b"", told, printed),
         }
     }
 
@@ -452,8 +461,9 @@ impl<'a> Session<'a> {
         ensures listing { self.new.listing ≡ self.old.listing }
         ensures obeys { IfOk result (λ text. Obeys self.old.labels self.old.listing.now line.now self.old.history self.old.stops self.old.is_over self.new.history self.new.stops self.new.is_over text.items) }
     {
-        let printed = self.history.point().snapshot().output().len();
-        match command_of(self.alloc, line, &self.labels)? {
+        let snapshot = self.history.point().snapshot();
+        let printed = snapshot.output().len();
+        match command_of(self.alloc, line, &self.labels, snapshot.cpu())? {
             Ok(Some(command)) => {
                 let listed = self.listed(command)?;
                 let told = self.obey(command)?;

@@ -261,10 +261,11 @@ pub(crate) fn put_who(
 pub(crate) fn put_outcome(
     alloc: Global,
     labels: &Labels,
+    none: &[u8],
     told: Option<Outcome>,
     text: &mut Vec<u8>,
 ) -> Result<(), AllocError>
-    ensures { OnOk result (text.new.items ≡ text.old.items ++ outcome_text labels.now told) }
+    ensures { OnOk result (text.new.items ≡ text.old.items ++ outcome_text labels.now none.now told) }
 {
     match told {
         Some(Outcome::Held(Hit::Breakpoint(address))) => {
@@ -280,7 +281,8 @@ pub(crate) fn put_outcome(
             let line = format!(in alloc; "limit of {MOST_TURNS} turns\n")?;
             text.extend_from_slice(line.as_bytes())
         }
-        _ => Ok(()),
+        None => text.extend_from_slice(none),
+        Some(_) => Ok(()),
     }
 }
 

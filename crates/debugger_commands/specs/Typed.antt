@@ -12,7 +12,8 @@ use Rattle.asm_scan.specs.Tokens.{Lexeme}
 use Rattle.asm_scan.specs.declared.fault.ScanFault.{ScanFault}
 use Rattle.asm_scan.specs.declared.token.Kind.{Kind}
 use Rattle.asm_scan.specs.declared.token.Kind.TheVariants as kind
-use Rattle.z80_cpu.specs.State.{up_by}
+use Rattle.z80_cpu.specs.State.{down_by, up_by}
+use Rattle.z80_cpu.specs.declared.registers.Cpu.{Cpu}
 use Rattle.debugger_commands.specs.declared.command.Command.{Command}
 use Rattle.debugger_commands.specs.declared.command.Command.TheVariants as command
 use Rattle.debugger_commands.specs.declared.refusal.Refusal.{Refusal}
@@ -24,7 +25,7 @@ use Rattle.debugger_commands.specs.declared.verb.Verb.{Verb}
 use Rattle.debugger_commands.specs.declared.verb.Verb.TheVariants as verb
 use Rattle.state_text.specs.Labelled.{Known, address_of_label}
 use Rattle.state_text.specs.Printing.Memory.{shown_character}
-use Rattle.state_text.specs.RegisterNames.{register_limit, register_named}
+use Rattle.state_text.specs.RegisterNames.{named_register, register_limit, register_named}
 
 -- ---- words
 
@@ -67,22 +68,35 @@ number_typed word = one_number word (scanned word)
 abbrev pub printed_address : List ℕ → Option ℕ
 printed_address word = if length word == 4 then value_in 16 word else None
 
--- an address and a number after it
-abbrev pub offset_by : Option ℕ → Option ℕ → Option ℕ
-offset_by (Some address) (Some offset) = Some (up_by offset address)
-offset_by address offset = None
+-- the value of a register of two bytes; one of a single byte is no address
+abbrev pub value_of_pair : Cpu → Option RegisterName → Option ℕ
+value_of_pair cpu (Some register) = if nat_lt 0xFF (register_limit register) then Some (named_register register cpu) else None
+value_of_pair cpu None = None
 
-abbrev pub label_and_number : Known → Option (List ℕ × List ℕ) → Option ℕ
-label_and_number known (Some (label, offset)) = offset_by (address_of_label known label) (number_typed offset)
-label_and_number known None = None
+-- PC, or the value of the register of two bytes with this name, in upper or lower case
+abbrev pub address_in_register : Cpu → List ℕ → Option ℕ
+address_in_register cpu word = if str_eq_ignore_ascii_case word (codes "PC") then Some cpu.pc else value_of_pair cpu (register_named word)
 
--- LABEL+N
-abbrev pub after_label : Known → List ℕ → Option ℕ
-after_label known word = label_and_number known (cut 0x2B word)
+-- the address of a label, otherwise the one in a register
+abbrev pub named_address : Known → Cpu → List ℕ → Option ℕ
+named_address known cpu word = option_or (address_of_label known word) (address_in_register cpu word)
 
--- a label, otherwise four digits, otherwise a label and a number, otherwise a number
-abbrev pub typed_address : Known → List ℕ → Option ℕ
-typed_address known word = option_or (address_of_label known word) (option_or (printed_address word) (option_or (after_label known word) (number_typed word)))
+abbrev pub both_found : Option ℕ → Option ℕ → Option (ℕ × ℕ)
+both_found (Some address) (Some offset) = Some (address, offset)
+both_found address offset = None
+
+abbrev pub address_and_offset : Known → Cpu → Option (List ℕ × List ℕ) → Option (ℕ × ℕ)
+address_and_offset known cpu (Some (name, offset)) = both_found (named_address known cpu name) (number_typed offset)
+address_and_offset known cpu None = None
+
+-- NAME+N, otherwise NAME-N
+abbrev pub address_near : Known → Cpu → List ℕ → Option ℕ
+address_near known cpu word =
+    option_or (option_map (λ it. up_by it.1 it.0) (address_and_offset known cpu (cut 0x2B word))) (option_map (λ it. down_by it.1 it.0) (address_and_offset known cpu (cut 0x2D word)))
+
+-- a label or a register, otherwise four digits, otherwise a label or a register and a number, otherwise a number
+abbrev pub typed_address : Known → Cpu → List ℕ → Option ℕ
+typed_address known cpu word = option_or (named_address known cpu word) (option_or (printed_address word) (option_or (address_near known cpu word) (number_typed word)))
 
 -- ---- the names of the commands
 
@@ -118,7 +132,6 @@ argument_forms verb.Turn = codes " N"
 argument_forms verb.Run = codes " [ADDR]"
 argument_forms verb.Break = codes " ADDR [if REG=VALUE]"
 argument_forms verb.Watch = codes " ADDR [N]"
-argument_forms verb.Info = codes " [break|breakpoints|watch|watchpoints]"
 argument_forms verb.Memory = codes " ADDR [N]"
 argument_forms verb.Disassemble = codes " ADDR [N]"
 argument_forms verb.Who = codes " ADDR"
@@ -179,51 +192,51 @@ typed_turns it default (word ∷ []) = ok_or (turns_of word) (word, refusal.Turn
 typed_turns it default (word ∷ next ∷ more) = Err (usage it)
 
 -- ADDR
-abbrev pub address : Known → List ℕ → Reading ℕ
-address known word = ok_or (typed_address known word) (word, refusal.Address)
+abbrev pub address : Known → Cpu → List ℕ → Reading ℕ
+address known cpu word = ok_or (typed_address known cpu word) (word, refusal.Address)
 
-abbrev pub one_address : Known → Verb → List (List ℕ) → Reading ℕ
-one_address known it (word ∷ []) = address known word
-one_address known it other = Err (usage it)
+abbrev pub one_address : Known → Cpu → Verb → List (List ℕ) → Reading ℕ
+one_address known cpu it (word ∷ []) = address known cpu word
+one_address known cpu it other = Err (usage it)
 
 -- [ADDR]
-abbrev pub some_address : Known → Verb → List (List ℕ) → Reading (Option ℕ)
-some_address known it [] = Ok None
-some_address known it words = read_as Some (one_address known it words)
+abbrev pub some_address : Known → Cpu → Verb → List (List ℕ) → Reading (Option ℕ)
+some_address known cpu it [] = Ok None
+some_address known cpu it words = read_as Some (one_address known cpu it words)
 
 -- N, of bytes or instructions
 abbrev pub typed_number : List ℕ → Reading ℕ
 typed_number word = ok_or (number_typed word) (word, refusal.Number)
 
 -- ADDR [N]
-abbrev pub address_and_number : Known → Verb → ℕ → List (List ℕ) → Reading (ℕ × ℕ)
-address_and_number known it default (word ∷ []) = both_read (address known word) (Ok default)
-address_and_number known it default (word ∷ count ∷ []) = both_read (address known word) (typed_number count)
-address_and_number known it default other = Err (usage it)
+abbrev pub address_and_number : Known → Cpu → Verb → ℕ → List (List ℕ) → Reading (ℕ × ℕ)
+address_and_number known cpu it default (word ∷ []) = both_read (address known cpu word) (Ok default)
+address_and_number known cpu it default (word ∷ count ∷ []) = both_read (address known cpu word) (typed_number count)
+address_and_number known cpu it default other = Err (usage it)
 
 -- a value that fits into its register
 abbrev pub fitting_value : List ℕ → Reading (RegisterName × ℕ) → Reading Condition
 fitting_value word (Ok (register, value)) = if nat_le value (register_limit register) then Ok (record { register = register; value = value }) else Err (word, refusal.OneByte)
 fitting_value word (Err why) = Err why
 
-abbrev pub register_and_value : Known → List ℕ → Option (List ℕ × List ℕ) → Reading Condition
-register_and_value known word (Some (register, value)) =
-    fitting_value word (both_read (ok_or (register_named register) (word, refusal.Register)) (ok_or (typed_address known value) (word, refusal.Value)))
-register_and_value known word None = Err (usage verb.Break)
+abbrev pub register_and_value : Known → Cpu → List ℕ → Option (List ℕ × List ℕ) → Reading Condition
+register_and_value known cpu word (Some (register, value)) =
+    fitting_value word (both_read (ok_or (register_named register) (word, refusal.Register)) (ok_or (typed_address known cpu value) (word, refusal.Value)))
+register_and_value known cpu word None = Err (usage verb.Break)
 
 -- REG=VALUE
-abbrev pub typed_condition : Known → List ℕ → Reading Condition
-typed_condition known word = register_and_value known word (cut 0x3D word)
+abbrev pub typed_condition : Known → Cpu → List ℕ → Reading Condition
+typed_condition known cpu word = register_and_value known cpu word (cut 0x3D word)
 
 -- ADDR if REG=VALUE
-abbrev pub conditional_breakpoint : Known → List ℕ → List ℕ → Reading Breakpoint
-conditional_breakpoint known word test = read_as (λ it. record { address = it.0; condition = Some it.1 }) (both_read (address known word) (typed_condition known test))
+abbrev pub conditional_breakpoint : Known → Cpu → List ℕ → List ℕ → Reading Breakpoint
+conditional_breakpoint known cpu word test = read_as (λ it. record { address = it.0; condition = Some it.1 }) (both_read (address known cpu word) (typed_condition known cpu test))
 
 -- ADDR [if REG=VALUE]
-abbrev pub breakpoint : Known → List (List ℕ) → Reading Breakpoint
-breakpoint known (word ∷ []) = read_as (λ at. record { address = at; condition = None }) (address known word)
-breakpoint known (word ∷ between ∷ test ∷ []) = if str_eq_ignore_ascii_case between (codes "if") then conditional_breakpoint known word test else Err (usage verb.Break)
-breakpoint known other = Err (usage verb.Break)
+abbrev pub breakpoint : Known → Cpu → List (List ℕ) → Reading Breakpoint
+breakpoint known cpu (word ∷ []) = read_as (λ at. record { address = at; condition = None }) (address known cpu word)
+breakpoint known cpu (word ∷ between ∷ test ∷ []) = if str_eq_ignore_ascii_case between (codes "if") then conditional_breakpoint known cpu word test else Err (usage verb.Break)
+breakpoint known cpu other = Err (usage verb.Break)
 
 abbrev pub is_listed : List ℕ → Bool
 is_listed word = list_any (str_eq_ignore_ascii_case word) (codes "break" ∷ codes "breakpoints" ∷ codes "watch" ∷ codes "watchpoints" ∷ [])
@@ -235,43 +248,43 @@ info (word ∷ []) = if is_listed word then Ok command.Info else Err (usage verb
 info (word ∷ next ∷ more) = Err (usage verb.Info)
 
 -- the command with this name and these words after it
-abbrev pub typed_as : Known → Verb → List (List ℕ) → Reading Command
-typed_as known verb.Step words = read_as command.Step (typed_turns verb.Step (Some 1) words)
-typed_as known verb.Back words = read_as command.Back (typed_turns verb.Back (Some 1) words)
-typed_as known verb.Turn words = read_as command.Turn (typed_turns verb.Turn None words)
-typed_as known verb.Run words = read_as command.Run (some_address known verb.Run words)
-typed_as known verb.Next words = no_arguments verb.Next command.Next words
-typed_as known verb.Finish words = no_arguments verb.Finish command.Finish words
-typed_as known verb.BackRun words = no_arguments verb.BackRun command.BackRun words
-typed_as known verb.BackNext words = no_arguments verb.BackNext command.BackNext words
-typed_as known verb.Break words = read_as command.Break (breakpoint known words)
-typed_as known verb.Watch words = read_as (λ at. command.Watch at.0 at.1) (address_and_number known verb.Watch 1 words)
-typed_as known verb.Delete words = no_arguments verb.Delete command.Delete words
-typed_as known verb.Info words = info words
-typed_as known verb.Registers words = no_arguments verb.Registers command.Registers words
-typed_as known verb.Memory words = read_as (λ at. command.Memory at.0 at.1) (address_and_number known verb.Memory 16 words)
-typed_as known verb.Disassemble words = read_as (λ at. command.Disassemble at.0 at.1) (address_and_number known verb.Disassemble 8 words)
-typed_as known verb.Stack words = no_arguments verb.Stack command.Stack words
-typed_as known verb.Output words = no_arguments verb.Output command.Output words
-typed_as known verb.Who words = read_as command.Who (one_address known verb.Who words)
-typed_as known verb.Files words = no_arguments verb.Files command.Files words
-typed_as known verb.Where words = no_arguments verb.Where command.Where words
-typed_as known verb.Help words = no_arguments verb.Help command.Help words
-typed_as known verb.Quit words = no_arguments verb.Quit command.Quit words
+abbrev pub typed_as : Known → Cpu → Verb → List (List ℕ) → Reading Command
+typed_as known cpu verb.Step words = read_as command.Step (typed_turns verb.Step (Some 1) words)
+typed_as known cpu verb.Back words = read_as command.Back (typed_turns verb.Back (Some 1) words)
+typed_as known cpu verb.Turn words = read_as command.Turn (typed_turns verb.Turn None words)
+typed_as known cpu verb.Run words = read_as command.Run (some_address known cpu verb.Run words)
+typed_as known cpu verb.Next words = no_arguments verb.Next command.Next words
+typed_as known cpu verb.Finish words = no_arguments verb.Finish command.Finish words
+typed_as known cpu verb.BackRun words = no_arguments verb.BackRun command.BackRun words
+typed_as known cpu verb.BackNext words = no_arguments verb.BackNext command.BackNext words
+typed_as known cpu verb.Break words = read_as command.Break (breakpoint known cpu words)
+typed_as known cpu verb.Watch words = read_as (λ at. command.Watch at.0 at.1) (address_and_number known cpu verb.Watch 1 words)
+typed_as known cpu verb.Delete words = no_arguments verb.Delete command.Delete words
+typed_as known cpu verb.Info words = info words
+typed_as known cpu verb.Registers words = no_arguments verb.Registers command.Registers words
+typed_as known cpu verb.Memory words = read_as (λ at. command.Memory at.0 at.1) (address_and_number known cpu verb.Memory 16 words)
+typed_as known cpu verb.Disassemble words = read_as (λ at. command.Disassemble at.0 at.1) (address_and_number known cpu verb.Disassemble 8 words)
+typed_as known cpu verb.Stack words = no_arguments verb.Stack command.Stack words
+typed_as known cpu verb.Output words = no_arguments verb.Output command.Output words
+typed_as known cpu verb.Who words = read_as command.Who (one_address known cpu verb.Who words)
+typed_as known cpu verb.Files words = no_arguments verb.Files command.Files words
+typed_as known cpu verb.Where words = no_arguments verb.Where command.Where words
+typed_as known cpu verb.Help words = no_arguments verb.Help command.Help words
+typed_as known cpu verb.Quit words = no_arguments verb.Quit command.Quit words
 
 -- ---- lines
 
-abbrev pub verb_means : Known → List ℕ → Option Verb → List (List ℕ) → Reading Command
-verb_means known first (Some it) more = typed_as known it more
-verb_means known first None more = Err (first, refusal.Command)
+abbrev pub verb_means : Known → Cpu → List ℕ → Option Verb → List (List ℕ) → Reading Command
+verb_means known cpu first (Some it) more = typed_as known cpu it more
+verb_means known cpu first None more = Err (first, refusal.Command)
 
-abbrev pub words_mean : Known → List (List ℕ) → Reading (Option Command)
-words_mean known [] = Ok None
-words_mean known (first ∷ more) = read_as Some (verb_means known first (verb_named first) more)
+abbrev pub words_mean : Known → Cpu → List (List ℕ) → Reading (Option Command)
+words_mean known cpu [] = Ok None
+words_mean known cpu (first ∷ more) = read_as Some (verb_means known cpu first (verb_named first) more)
 
 -- what a line means: nothing, if it is blank; a command; or it is refused
-abbrev pub line_meaning : Known → List ℕ → Reading (Option Command)
-line_meaning known line = words_mean known (line_words line)
+abbrev pub line_meaning : Known → Cpu → List ℕ → Reading (Option Command)
+line_meaning known cpu line = words_mean known cpu (line_words line)
 
 -- ---- the line that is printed for a line that is refused
 
@@ -285,7 +298,7 @@ usage_line it = codes "usage: " ++ verb_name it ++ argument_forms it ++ codes "\
 abbrev pub refusal_line : Refused → List ℕ
 refusal_line (word, refusal.Command) = shown_word word ++ codes ": not a command; try help\n"
 refusal_line (word, refusal.Usage it) = usage_line it
-refusal_line (word, refusal.Address) = shown_word word ++ codes ": not a label or an address\n"
+refusal_line (word, refusal.Address) = shown_word word ++ codes ": not a label or an address, such as START+5, HL, 0125 or 125H\n"
 refusal_line (word, refusal.Turns) = shown_word word ++ codes ": not a decimal number up to 18446744073709551615\n"
 refusal_line (word, refusal.Number) = shown_word word ++ codes ": not a number up to 65535\n"
 refusal_line (word, refusal.Register) = shown_word word ++ codes ": no register before =\n"

@@ -12,6 +12,7 @@ use state_text::{
     Breakpoint, Condition, Labels, RegisterName, is_same_name, register_limit, register_named,
 };
 use std::alloc::{AllocError, Global};
+use z80_cpu::Cpu;
 
 /// What a line asks for.
 #[derive(Clone, Copy, Debug, PartialEq, Eq)]
@@ -134,11 +135,12 @@ fn info<'a>(words: &[&'a [u8]]) -> Reading<'a, Command>
 fn address<'a>(
     alloc: Global,
     labels: &Labels,
+    cpu: &Cpu,
     word: &'a [u8],
 ) -> Result<Reading<'a, u16>, AllocError>
-    ensures { IfOk result (λ read. shown_reading read ≡ address labels.now word.now) }
+    ensures { IfOk result (λ read. shown_reading read ≡ address labels.now cpu.now word.now) }
 {
-    match address_of(alloc, labels, word)? {
+    match address_of(alloc, labels, cpu, word)? {
         Some(address) => Ok(Ok(address)),
         None => Ok(Err((word, Refusal::Address))),
     }
@@ -148,13 +150,15 @@ fn address<'a>(
 fn one_address<'a>(
     alloc: Global,
     labels: &Labels,
+    cpu: &Cpu,
     verb: Verb,
     words: &[&'a [u8]],
 ) -> Result<Reading<'a, u16>, AllocError>
-    ensures { IfOk result (λ read. shown_reading read ≡ one_address labels.now verb (map (λ w. w.now) words.now)) }
+    ensures { IfOk result (λ read. shown_reading read ≡ one_address labels.now cpu.now verb (map (λ w. w.now) words.now)) }
 {
     match words {
-        [word] => address(alloc, labels, word),
+        [] => Ok(Err(usage(verb))),
+        [word] => address(alloc, labels, cpu, word),
         _ => Ok(Err(usage(verb))),
     }
 }
@@ -163,15 +167,16 @@ fn one_address<'a>(
 fn some_address<'a>(
     alloc: Global,
     labels: &Labels,
+    cpu: &Cpu,
     verb: Verb,
     words: &[&'a [u8]],
 ) -> Result<Reading<'a, Option<u16>>, AllocError>
-    ensures { IfOk result (λ read. shown_reading read ≡ some_address labels.now verb (map (λ w. w.now) words.now)) }
+    ensures { IfOk result (λ read. shown_reading read ≡ some_address labels.now cpu.now verb (map (λ w. w.now) words.now)) }
 {
     if words.is_empty() {
         return Ok(Ok(None));
     }
-    match one_address(alloc, labels, verb, words)? {
+    match one_address(alloc, labels, cpu, verb, words)? {
         Ok(address) => Ok(Ok(Some(address))),
         Err(why) => Ok(Err(why)),
     }
@@ -191,18 +196,20 @@ fn number<'a>(alloc: Global, word: &'a [u8]) -> Result<Reading<'a, u16>, AllocEr
 fn address_and_number<'a>(
     alloc: Global,
     labels: &Labels,
+    cpu: &Cpu,
     verb: Verb,
     default: u16,
     words: &[&'a [u8]],
 ) -> Result<Reading<'a, (u16, u16)>, AllocError>
-    ensures { IfOk result (λ read. shown_reading read ≡ address_and_number labels.now verb default (map (λ w. w.now) words.now)) }
+    ensures { IfOk result (λ read. shown_reading read ≡ address_and_number labels.now cpu.now verb default (map (λ w. w.now) words.now)) }
 {
     let (first, second) = match words {
+        [] => return Ok(Err(usage(verb))),
         [first] => (first, None),
         [first, second] => (first, Some(second)),
         _ => return Ok(Err(usage(verb))),
     };
-    let from = match address(alloc, labels, first)? {
+    let from = match address(alloc, labels, cpu, first)? {
         Ok(from) => from,
         Err(why) => return Ok(Err(why)),
     };
@@ -230,9 +237,10 @@ fn fitting<'a>(word: &'a [u8], register: RegisterName, value: u16) -> Reading<'a
 fn condition<'a>(
     alloc: Global,
     labels: &Labels,
+    cpu: &Cpu,
     word: &'a [u8],
 ) -> Result<Reading<'a, Condition>, AllocError>
-    ensures { IfOk result (λ read. shown_reading read ≡ typed_condition labels.now word.now) }
+    ensures { IfOk result (λ read. shown_reading read ≡ typed_condition labels.now cpu.now word.now) }
 {
     let Some((name, value)) = cut(word, b'=') else {
         return Ok(Err(usage(Verb::Break)));
@@ -240,7 +248,7 @@ fn condition<'a>(
     let Some(register) = register_named(name) else {
         return Ok(Err((word, Refusal::Register)));
     };
-    match address_of(alloc, labels, value)? {
+    match address_of(alloc, labels, cpu, value)? {
         Some(value) => Ok(fitting(word, register, value)),
         None => Ok(Err((word, Refusal::Value))),
     }
@@ -250,16 +258,17 @@ fn condition<'a>(
 fn conditional<'a>(
     alloc: Global,
     labels: &Labels,
+    cpu: &Cpu,
     word: &'a [u8],
     test: &'a [u8],
 ) -> Result<Reading<'a, Breakpoint>, AllocError>
-    ensures { IfOk result (λ read. shown_reading read ≡ conditional_breakpoint labels.now word.now test.now) }
+    ensures { IfOk result (λ read. shown_reading read ≡ conditional_breakpoint labels.now cpu.now word.now test.now) }
 {
-    let address = match address(alloc, labels, word)? {
+    let address = match address(alloc, labels, cpu, word)? {
         Ok(address) => address,
         Err(why) => return Ok(Err(why)),
     };
-    match condition(alloc, labels, test)? {
+    match condition(alloc, labels, cpu, test)? {
         Ok(condition) => Ok(Ok(Breakpoint {
             address,
             condition: Some(condition),
@@ -272,13 +281,14 @@ fn conditional<'a>(
 fn breakpoint<'a>(
     alloc: Global,
     labels: &Labels,
+    cpu: &Cpu,
     words: &[&'a [u8]],
 ) -> Result<Reading<'a, Breakpoint>, AllocError>
-    ensures { IfOk result (λ read. shown_reading read ≡ breakpoint labels.now (map (λ w. w.now) words.now)) }
+    ensures { IfOk result (λ read. shown_reading read ≡ breakpoint labels.now cpu.now (map (λ w. w.now) words.now)) }
 {
     match words {
         [] => Ok(Err(usage(Verb::Break))),
-        [word] => match address(alloc, labels, word)? {
+        [word] => match address(alloc, labels, cpu, word)? {
             Ok(address) => Ok(Ok(Breakpoint {
                 address,
                 condition: None,
@@ -288,7 +298,7 @@ fn breakpoint<'a>(
         [_, _] => Ok(Err(usage(Verb::Break))),
         [word, between, test] => {
             if is_same_name(between, b"if") {
-                conditional(alloc, labels, word, test)
+                conditional(alloc, labels, cpu, word, test)
             } else {
                 Ok(Err(usage(Verb::Break)))
             }
@@ -331,11 +341,12 @@ fn turn<'a>(words: &[&'a [u8]]) -> Reading<'a, Command>
 fn run<'a>(
     alloc: Global,
     labels: &Labels,
+    cpu: &Cpu,
     words: &[&'a [u8]],
 ) -> Result<Reading<'a, Command>, AllocError>
-    ensures { IfOk result (λ read. shown_reading read ≡ typed_as labels.now verb.Run (map (λ w. w.now) words.now)) }
+    ensures { IfOk result (λ read. shown_reading read ≡ typed_as labels.now cpu.now verb.Run (map (λ w. w.now) words.now)) }
 {
-    match some_address(alloc, labels, Verb::Run, words)? {
+    match some_address(alloc, labels, cpu, Verb::Run, words)? {
         Ok(address) => Ok(Ok(Command::Run(address))),
         Err(why) => Ok(Err(why)),
     }
@@ -345,11 +356,12 @@ fn run<'a>(
 fn break_at<'a>(
     alloc: Global,
     labels: &Labels,
+    cpu: &Cpu,
     words: &[&'a [u8]],
 ) -> Result<Reading<'a, Command>, AllocError>
-    ensures { IfOk result (λ read. shown_reading read ≡ typed_as labels.now verb.Break (map (λ w. w.now) words.now)) }
+    ensures { IfOk result (λ read. shown_reading read ≡ typed_as labels.now cpu.now verb.Break (map (λ w. w.now) words.now)) }
 {
-    match breakpoint(alloc, labels, words)? {
+    match breakpoint(alloc, labels, cpu, words)? {
         Ok(breakpoint) => Ok(Ok(Command::Break(breakpoint))),
         Err(why) => Ok(Err(why)),
     }
@@ -359,11 +371,12 @@ fn break_at<'a>(
 fn watch<'a>(
     alloc: Global,
     labels: &Labels,
+    cpu: &Cpu,
     words: &[&'a [u8]],
 ) -> Result<Reading<'a, Command>, AllocError>
-    ensures { IfOk result (λ read. shown_reading read ≡ typed_as labels.now verb.Watch (map (λ w. w.now) words.now)) }
+    ensures { IfOk result (λ read. shown_reading read ≡ typed_as labels.now cpu.now verb.Watch (map (λ w. w.now) words.now)) }
 {
-    match address_and_number(alloc, labels, Verb::Watch, 1, words)? {
+    match address_and_number(alloc, labels, cpu, Verb::Watch, 1, words)? {
         Ok((from, count)) => Ok(Ok(Command::Watch(from, count))),
         Err(why) => Ok(Err(why)),
     }
@@ -373,11 +386,12 @@ fn watch<'a>(
 fn memory<'a>(
     alloc: Global,
     labels: &Labels,
+    cpu: &Cpu,
     words: &[&'a [u8]],
 ) -> Result<Reading<'a, Command>, AllocError>
-    ensures { IfOk result (λ read. shown_reading read ≡ typed_as labels.now verb.Memory (map (λ w. w.now) words.now)) }
+    ensures { IfOk result (λ read. shown_reading read ≡ typed_as labels.now cpu.now verb.Memory (map (λ w. w.now) words.now)) }
 {
-    match address_and_number(alloc, labels, Verb::Memory, SHOWN_BYTES, words)? {
+    match address_and_number(alloc, labels, cpu, Verb::Memory, SHOWN_BYTES, words)? {
         Ok((from, count)) => Ok(Ok(Command::Memory(from, count))),
         Err(why) => Ok(Err(why)),
     }
@@ -387,11 +401,19 @@ fn memory<'a>(
 fn disassemble<'a>(
     alloc: Global,
     labels: &Labels,
+    cpu: &Cpu,
     words: &[&'a [u8]],
 ) -> Result<Reading<'a, Command>, AllocError>
-    ensures { IfOk result (λ read. shown_reading read ≡ typed_as labels.now verb.Disassemble (map (λ w. w.now) words.now)) }
+    ensures { IfOk result (λ read. shown_reading read ≡ typed_as labels.now cpu.now verb.Disassemble (map (λ w. w.now) words.now)) }
 {
-    match address_and_number(alloc, labels, Verb::Disassemble, SHOWN_INSTRUCTIONS, words)? {
+    match address_and_number(
+        alloc,
+        labels,
+        cpu,
+        Verb::Disassemble,
+        SHOWN_INSTRUCTIONS,
+        words,
+    )? {
         Ok((from, count)) => Ok(Ok(Command::Disassemble(from, count))),
         Err(why) => Ok(Err(why)),
     }
@@ -401,11 +423,12 @@ fn disassemble<'a>(
 fn who<'a>(
     alloc: Global,
     labels: &Labels,
+    cpu: &Cpu,
     words: &[&'a [u8]],
 ) -> Result<Reading<'a, Command>, AllocError>
-    ensures { IfOk result (λ read. shown_reading read ≡ typed_as labels.now verb.Who (map (λ w. w.now) words.now)) }
+    ensures { IfOk result (λ read. shown_reading read ≡ typed_as labels.now cpu.now verb.Who (map (λ w. w.now) words.now)) }
 {
-    match one_address(alloc, labels, Verb::Who, words)? {
+    match one_address(alloc, labels, cpu, Verb::Who, words)? {
         Ok(address) => Ok(Ok(Command::Who(address))),
         Err(why) => Ok(Err(why)),
     }
@@ -415,30 +438,31 @@ fn who<'a>(
 fn typed_as<'a>(
     alloc: Global,
     labels: &Labels,
+    cpu: &Cpu,
     verb: Verb,
     words: &[&'a [u8]],
 ) -> Result<Reading<'a, Command>, AllocError>
-    ensures { IfOk result (λ read. shown_reading read ≡ typed_as labels.now verb (map (λ w. w.now) words.now)) }
+    ensures { IfOk result (λ read. shown_reading read ≡ typed_as labels.now cpu.now verb (map (λ w. w.now) words.now)) }
 {
     match verb {
         Verb::Step => Ok(step(words)),
         Verb::Back => Ok(back(words)),
         Verb::Turn => Ok(turn(words)),
-        Verb::Run => run(alloc, labels, words),
+        Verb::Run => run(alloc, labels, cpu, words),
         Verb::Next => Ok(alone(verb, Command::Next, words)),
         Verb::Finish => Ok(alone(verb, Command::Finish, words)),
         Verb::BackRun => Ok(alone(verb, Command::BackRun, words)),
         Verb::BackNext => Ok(alone(verb, Command::BackNext, words)),
-        Verb::Break => break_at(alloc, labels, words),
-        Verb::Watch => watch(alloc, labels, words),
+        Verb::Break => break_at(alloc, labels, cpu, words),
+        Verb::Watch => watch(alloc, labels, cpu, words),
         Verb::Delete => Ok(alone(verb, Command::Delete, words)),
         Verb::Info => Ok(info(words)),
         Verb::Registers => Ok(alone(verb, Command::Registers, words)),
-        Verb::Memory => memory(alloc, labels, words),
-        Verb::Disassemble => disassemble(alloc, labels, words),
+        Verb::Memory => memory(alloc, labels, cpu, words),
+        Verb::Disassemble => disassemble(alloc, labels, cpu, words),
         Verb::Stack => Ok(alone(verb, Command::Stack, words)),
         Verb::Output => Ok(alone(verb, Command::Output, words)),
-        Verb::Who => who(alloc, labels, words),
+        Verb::Who => who(alloc, labels, cpu, words),
         Verb::Files => Ok(alone(verb, Command::Files, words)),
         Verb::Where => Ok(alone(verb, Command::Where, words)),
         Verb::Help => Ok(alone(verb, Command::Help, words)),
@@ -446,7 +470,7 @@ fn typed_as<'a>(
     }
 }
 
-/// What a line means: nothing, if it is blank; a command; or why it is refused.
+/// What a line means: nothing, if it is blank; a command; or why it is refused. A register in it stands for its value in `cpu`.
 ///
 /// # Errors
 ///
@@ -455,8 +479,9 @@ pub fn command_of<'a>(
     alloc: Global,
     line: &'a [u8],
     labels: &Labels,
+    cpu: &Cpu,
 ) -> Result<Reading<'a, Option<Command>>, AllocError>
-    ensures { IfOk result (λ read. shown_reading read ≡ line_meaning labels.now line.now) }
+    ensures { IfOk result (λ read. shown_reading read ≡ line_meaning labels.now cpu.now line.now) }
 {
     let words = words_of(alloc, line)?;
     let Some((first, more)) = words.split_first() else {
@@ -465,7 +490,7 @@ pub fn command_of<'a>(
     let Some(verb) = verb_named(first) else {
         return Ok(Err((*first, Refusal::Command)));
     };
-    match typed_as(alloc, labels, verb, more)? {
+    match typed_as(alloc, labels, cpu, verb, more)? {
         Ok(command) => Ok(Ok(Some(command))),
         Err(why) => Ok(Err(why)),
     }

@@ -59,7 +59,11 @@ pub fn refusal_line(alloc: Global, refused: Refused<'_>) -> Result<Vec<u8>, Allo
     match why {
         Refusal::Usage(verb) => usage(alloc, verb),
         Refusal::Command => named(alloc, word, b": not a command; try help\n"),
-        Refusal::Address => named(alloc, word, b": not a label or an address\n"),
+        Refusal::Address => named(
+            alloc,
+            word,
+            b": not a label or an address, such as START+5, HL, 0125 or 125H\n",
+        ),
         Refusal::Turns => named(
             alloc,
             word,

@@ -104,7 +104,6 @@ impl Verb {
             Verb::Run => b" [ADDR]",
             Verb::Break => b" ADDR [if REG=VALUE]",
             Verb::Watch => b" ADDR [N]",
-            Verb::Info => b" [break|breakpoints|watch|watchpoints]",
             Verb::Memory => b" ADDR [N]",
             Verb::Disassemble => b" ADDR [N]",
             Verb::Who => b" ADDR",

@@ -5,12 +5,13 @@ ghost use Rattle.std.specs.Char.{is_ascii_whitespace};
 ghost use Rattle.std.specs.List.{position, position_or_len, slice_split};
 ghost use Rattle.std.specs.Option.{IfSome};
 ghost use Rattle.asm_scan.specs.Tokens.{lexemes};
-ghost use Rattle.debugger_commands.specs.Typed.{typed_address, after_label, cut, number_typed, one_number, printed_address, is_typed_word, turns_of, line_words};
+ghost use Rattle.debugger_commands.specs.Typed.{address_and_offset, address_in_register, address_near, cut, is_typed_word, line_words, named_address, number_typed, one_number, printed_address, turns_of, typed_address};
 ghost use Rattle.debugger_commands.specs.Private.Parts.{parts_left};
 
 use asm_scan::{Kind, ScanFault, Token, tokens};
-use state_text::Labels;
+use state_text::{Labels, is_same_name, register_limit, register_named};
 use std::alloc::{AllocError, Global};
+use z80_cpu::Cpu;
 
 /// How many digits an address is printed with.
 const ADDRESS_DIGITS: usize = 4;
@@ -128,37 +129,88 @@ fn printed_address(word: &[u8]) -> Option<u16>
     u16::from_str_radix(digits, 16).ok()
 }
 
-/// The address after a label, as in `TEXT+1`.
-fn after_label(alloc: Global, labels: &Labels, word: &[u8]) -> Result<Option<u16>, AllocError>
-    ensures { IfOk result (λ address. address ≡ after_label labels.now word.now) }
+/// PC, or the value of the register of two bytes with this name.
+fn address_in_register(cpu: &Cpu, word: &[u8]) -> Option<u16>
+    ensures { result ≡ address_in_register cpu.now word.now }
 {
-    let Some((name, offset)) = cut(word, b'+') else {
+    if is_same_name(word, b"PC") {
+        return Some(cpu.pc);
+    }
+    let register = register_named(word)?;
+    if register_limit(register) > 0xFF {
+        Some(register.value(cpu))
+    } else {
+        None
+    }
+}
+
+/// The address of a label, or the one in a register.
+fn named_address(labels: &Labels, cpu: &Cpu, word: &[u8]) -> Option<u16>
+    ensures { result ≡ named_address labels.now cpu.now word.now }
+{
+    match labels.address_of(word) {
+        Some(address) => Some(address),
+        None => address_in_register(cpu, word),
+    }
+}
+
+/// The address before this sign, and the number after it.
+fn address_and_offset(
+    alloc: Global,
+    labels: &Labels,
+    cpu: &Cpu,
+    word: &[u8],
+    sign: u8,
+) -> Result<Option<(u16, u16)>, AllocError>
+    ensures { IfOk result (λ parts. parts ≡ address_and_offset labels.now cpu.now (cut «sign» word.now)) }
+{
+    let Some((name, offset)) = cut(word, sign) else {
         return Ok(None);
     };
-    let Some(address) = labels.address_of(name) else {
+    let Some(address) = named_address(labels, cpu, name) else {
         return Ok(None);
     };
     match number_of(alloc, offset)? {
-        Some(offset) => Ok(Some(address.wrapping_add(offset))),
+        Some(offset) => Ok(Some((address, offset))),
         None => Ok(None),
     }
 }
 
-/// The address that a word is: a label, an address as the answers print it, a label and a number, or a number of the assembler.
+/// The address that is a number after or before a name, as in `TEXT+1` or `SP-2`.
+fn address_near(
+    alloc: Global,
+    labels: &Labels,
+    cpu: &Cpu,
+    word: &[u8],
+) -> Result<Option<u16>, AllocError>
+    ensures { IfOk result (λ address. address ≡ address_near labels.now cpu.now word.now) }
+{
+    if let Some((address, offset)) = address_and_offset(alloc, labels, cpu, word, b'+')? {
+        return Ok(Some(address.wrapping_add(offset)));
+    }
+    match address_and_offset(alloc, labels, cpu, word, b'-')? {
+        Some((address, offset)) => Ok(Some(address.wrapping_sub(offset))),
+        None => Ok(None),
+    }
+}
+
+/// The address that a word is: a label, a register of two bytes, an address as the answers print it, a name with a number, or a number of
+/// the assembler.
 pub(crate) fn address_of(
     alloc: Global,
     labels: &Labels,
+    cpu: &Cpu,
     word: &[u8],
 ) -> Result<Option<u16>, AllocError>
-    ensures { IfOk result (λ address. address ≡ typed_address labels.now word.now) }
+    ensures { IfOk result (λ address. address ≡ typed_address labels.now cpu.now word.now) }
 {
-    if let Some(address) = labels.address_of(word) {
+    if let Some(address) = named_address(labels, cpu, word) {
         return Ok(Some(address));
     }
     if let Some(address) = printed_address(word) {
         return Ok(Some(address));
     }
-    match after_label(alloc, labels, word)? {
+    match address_near(alloc, labels, cpu, word)? {
         Some(address) => Ok(Some(address)),
         None => number_of(alloc, word),
     }

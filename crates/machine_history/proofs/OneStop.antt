@@ -153,7 +153,7 @@ Stops_after goal stops limit p q k outcome.Limit = (k ≡ limit) × LeadsBy (hol
 
 stops_after : (goal : Option Goal) (stops : Stops) (limit : ℕ) (old new : Shown) (o : Outcome) → RanUntil goal stops limit old new o → (k : ℕ) × (new.turn ≡ old.turn + k) × Stops_after goal stops limit old.point new.point k o
 stops_after goal stops limit old new (outcome.Held why) h = (h.0 + 1, let turns = h.3 in omega (arith, turns), (h.0, h.1, refl, h.2, h.4, h.5, h.6))
-stops_after goal stops limit old new outcome.Ended h = (h.0, h.2, (h.1, h.3, h.4))
+stops_after goal stops limit old new outcome.Ended h = (h.0.0, h.0.2, (h.0.1, h.0.3, h.1))
 stops_after goal stops limit old new outcome.Limit h = (limit, h.0, (refl, h.1, h.2))
 
 within : (goal : Option Goal) (stops : Stops) (limit : ℕ) (p q : Point) (k : ℕ) (o : Outcome) → Stops_after goal stops limit p q k o → k ≤ limit

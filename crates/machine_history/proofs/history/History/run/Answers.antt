@@ -23,3 +23,6 @@ loop-preserved c = record {
   leads = more c.loop.counter c.args.self.now.point c.loop.self.point c.step.new.self.point c.loop.invariant.leads c.in_ok-hit.ensures.next (ap is_some (sym c.in_ok-hit.ensures.held ∙ c.in_default.is));
   after = true_more c.loop.self c.step.new.self c.loop.invariant.after c.in_ok-hit.ensures.start c.in_ok-hit.ensures.turn c.in_ok-hit.ensures.next;
 }
+
+pub returns-in_err-hit-clause-stopped : goal.returns-in_err-hit-clause-stopped
+returns-in_err-hit-clause-stopped c = ?
