@@ -16,7 +16,7 @@ use Rattle.machine_history.specs.Calls.{IsCallBefore, call_place, shown_place}
 use Rattle.machine_history.specs.Going.{RanUntil, ShowsTurn}
 use Rattle.state_text.specs.Labelled.{Known}
 use Rattle.machine_history.specs.Stops.{IsLast}
-use Rattle.debugger.specs.Text.{Says, most_turns}
+use Rattle.debugger.specs.Text.{Says, breakpoints_at, most_turns, watches_at}
 use Rattle.debugger_commands.specs.Typed.{Reading, line_meaning, refusal_line}
 use Rattle.machine_history.specs.Walk.{IsTrue_of_run, Shown}
 
@@ -80,7 +80,9 @@ addresses from count = map (λ offset. up_by offset from) (range_with_len 0 coun
 abbrev pub Sets : Command → Stops → Stops → Type 0
 Sets (command.Break breakpoint) old new = (new.breakpoints.items ≡ old.breakpoints.items ++ breakpoint ∷ []) × (new.watches ≡ old.watches)
 Sets (command.Watch from count) old new = (new.breakpoints ≡ old.breakpoints) × (new.watches.items ≡ old.watches.items ++ addresses from count)
-Sets command.Delete old new = (new.breakpoints.items ≡ []) × (new.watches.items ≡ [])
+Sets (command.Delete None) old new = (new.breakpoints.items ≡ []) × (new.watches.items ≡ [])
+Sets (command.Delete (Some address)) old new =
+    (new.breakpoints.items ≡ breakpoints_at address false old.breakpoints.items) × (new.watches.items ≡ watches_at address false old.watches.items)
 Sets command old new = new ≡ old
 
 -- whether a command ends the session

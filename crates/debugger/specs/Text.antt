@@ -67,11 +67,27 @@ breakpoint_lines before known breakpoints = flat_map (λ breakpoint. before ++ b
 abbrev pub stops_lines : List ℕ → Known → List Breakpoint → List ℕ → List ℕ
 stops_lines before known breakpoints watches = breakpoint_lines before known breakpoints ++ watched_lines before known 0 0 watches
 
--- the same, or that there are none
-abbrev pub stops_text : List ℕ → Known → Stops → List ℕ
-stops_text before known stops =
-    if (length stops.breakpoints.items == 0) && (length stops.watches.items == 0) then codes "no breakpoints, and no watched bytes\n"
-    else stops_lines before known stops.breakpoints.items stops.watches.items
+-- the same, or this if there are none
+abbrev pub stops_text : List ℕ → List ℕ → Known → List Breakpoint → List ℕ → List ℕ
+stops_text none before known breakpoints watches = if (length breakpoints == 0) && (length watches == 0) then none else stops_lines before known breakpoints watches
+
+-- what is said if nothing is set at all, and if nothing is set at an address
+abbrev pub nothing_set : List ℕ
+nothing_set = codes "no breakpoints, and no watched bytes\n"
+
+abbrev pub nothing_there : List ℕ
+nothing_there = codes "no breakpoint and no watched byte is there\n"
+
+-- whether this is the address, or another one
+abbrev pub is_chosen : ℕ → Bool → ℕ → Bool
+is_chosen address there other = if there then other == address else not (other == address)
+
+-- the breakpoints and the watched bytes at an address, or those elsewhere
+abbrev pub breakpoints_at : ℕ → Bool → List Breakpoint → List Breakpoint
+breakpoints_at address there breakpoints = filter (λ it. is_chosen address there it.address) breakpoints
+
+abbrev pub watches_at : ℕ → Bool → List ℕ → List ℕ
+watches_at address there watches = filter (is_chosen address there) watches
 
 -- ---- `who`
 
@@ -202,8 +218,10 @@ Says command.Where stops told old shown known listing text = text ≡ where_text
 Says (command.Who address) stops told old shown known listing text = SaysWho address shown known text
 Says (command.Break breakpoint) stops told old shown known listing text = text ≡ breakpoint_line known breakpoint
 Says (command.Watch from count) stops told old shown known listing text = text ≡ watch_line known from count
-Says command.Delete stops told old shown known listing text = text ≡ stops_text (codes "deleted ") known stops
-Says command.Info stops told old shown known listing text = text ≡ stops_text [] known stops
+Says (command.Delete None) stops told old shown known listing text = text ≡ stops_text nothing_set (codes "deleted ") known stops.breakpoints.items stops.watches.items
+Says (command.Delete (Some address)) stops told old shown known listing text =
+    text ≡ stops_text nothing_there (codes "deleted ") known (breakpoints_at address true stops.breakpoints.items) (watches_at address true stops.watches.items)
+Says command.Info stops told old shown known listing text = text ≡ stops_text nothing_set [] known stops.breakpoints.items stops.watches.items
 Says (command.Disassemble from count) stops told old shown known listing text = WritesCode known shown.point.state.machine from count text
 Says command.Stack stops told old shown known listing text = text ≡ stack_text known shown.point.state.machine.memory shown.point.state.machine.cpu.sp
 Says command.Help stops told old shown known listing text = text ≡ HELP.now

@@ -3,7 +3,7 @@
 ghost use Rattle.std.specs.Prelude.{◌≡◌, drop};
 ghost use Rattle.debugger.specs.Session.{at_place};
 
-use crate::setting::set;
+use crate::setting::{chosen, set};
 use crate::text::{
     put_breakpoint, put_files, put_instructions, put_outcome, put_output, put_point, put_stack,
     put_stops, put_watch, put_where, put_who,
@@ -18,6 +18,12 @@ pub const MOST_TURNS: u64 = 100_000_000;
 
 /// What `back-run` says if it has come to the start and nothing held on the way.
 const NOTHING_HELD: &[u8] = b"nothing held before: this is the start\n";
+
+/// What is said if nothing is set.
+const NOTHING_SET: &[u8] = b"no breakpoints, and no watched bytes\n";
+
+/// What is said if nothing is set at an address.
+const NOTHING_THERE: &[u8] = b"no breakpoint and no watched byte is there\n";
 
 const HELP: &[u8] = b"step [N]                  make N turns, or one
 next                      one turn, but over the whole of a call
@@ -37,7 +43,7 @@ who ADDR                  the last turn that changed this byte
 break ADDR [if REG=VALUE] stop when PC is ADDR, and REG has this value
 watch ADDR [N]            stop at a turn that changes one of N bytes
 info                      list the breakpoints and the watched bytes
-delete                    forget all of them, and list what was forgotten
+delete [ADDR]             forget those at ADDR, or all of them, and list what was forgotten
 files                     the files of the disk: user, name and records
 help                      this list
 quit                      end the session
@@ -86,7 +92,7 @@ impl<'a> Session<'a> {
     ghost use Rattle.debugger.specs.Private.Listing.{ListsStops};
     ghost use Rattle.state_text.specs.Printing.Memory.{memory_text};
     ghost use Rattle.state_text.specs.Printing.Registers.{registers_text};
-    ghost use Rattle.debugger.specs.Text.{Printed, Says, SaysWhere, SaysWho, Watches, breakpoint_line, output_text, stack_text, watch_line, where_text};
+    ghost use Rattle.debugger.specs.Text.{Printed, Says, SaysWhere, SaysWho, Watches, breakpoint_line, output_text, stack_text, stops_text, watch_line, where_text};
     ghost use Rattle.machine_history.specs.declared.stops.Stops.{Stops as TheStops};
     ghost use Rattle.debugger.specs.Session.{BackNexts, BackRuns, GoesTo, Obeys, Moves, Nexts, RunsOn, Sets, is_quit};
     ghost use Rattle.machine_history.specs.Walk.{IsTrue_of_run, Shown};
@@ -321,25 +327,28 @@ impl<'a> Session<'a> {
         Ok(text)
     }
 
+    /// The lines of breakpoints and watched bytes, each after some text; or `none`, if there are none.
+    fn stop_lines(&self, none: &[u8], before: &[u8], stops: &Stops) -> Result<Vec<u8>, AllocError>
+        ensures { IfOk result (λ text. text.items ≡ stops_text none.now before.now self.now.labels stops.now.breakpoints.items stops.now.watches.items) }
+    {
+        let mut text = Vec::new(self.alloc);
+        put_stops(self.alloc, &self.labels, none, before, stops, &mut text)?;
+        Ok(text)
+    }
+
     /// The lines of the breakpoints and the watched bytes, for the commands that print them.
     fn listed(&self, command: Command) -> Result<Vec<u8>, AllocError>
         ensures { IfOk result (λ text. ListsStops command self.now.stops self.now.labels text.items) }
     {
-        let mut text = Vec::new(self.alloc);
         match command {
-            Command::Info => put_stops(self.alloc, &self.labels, b"", &self.stops, &mut text)?,
-            Command::Delete => {
-                put_stops(
-                    self.alloc,
-                    &self.labels,
-                    b"deleted ",
-                    &self.stops,
-                    &mut text,
-                )?
+            Command::Info => self.stop_lines(NOTHING_SET, b"", &self.stops),
+            Command::Delete(None) => self.stop_lines(NOTHING_SET, b"deleted ", &self.stops),
+            Command::Delete(Some(address)) => {
+                let there = chosen(self.alloc, &self.stops, address, true)?;
+                self.stop_lines(NOTHING_THERE, b"deleted ", &there)
             }
-            _ => {}
+            _ => Ok(Vec::new(self.alloc)),
         }
-        Ok(text)
     }
 
     /// What is printed for a command that goes to another turn, and ended so: what the program has printed since, why the command stopped,
@@ -430,7 +439,7 @@ impl<'a> Session<'a> {
             Command::Where => self.place(),
             Command::Break(breakpoint) => self.breakpoint(breakpoint),
             Command::Watch(from, count) => self.watched(from, count),
-            Command::Delete => Ok(listed),
+            Command::Delete(_) => Ok(listed),
             Command::Info => Ok(listed),
             Command::Quit => Ok(Vec::new(self.alloc)),
             Command::Disassemble(from, count) => self.code(from, count),

@@ -411,18 +411,20 @@ fn put_breakpoints(
     Ok(())
 }
 
-/// The lines of the breakpoints and of the watched bytes, in the order in which they were set, each after some text.
+/// The lines of the breakpoints and of the watched bytes, in the order in which they were set, each after some text; or `none`, if there are
+/// none.
 pub(crate) fn put_stops(
     alloc: Global,
     labels: &Labels,
+    none: &[u8],
     before: &[u8],
     stops: &Stops,
     text: &mut Vec<u8>,
 ) -> Result<(), AllocError>
-    ensures { OnOk result (text.new.items ≡ text.old.items ++ stops_text before.now labels.now stops.now) }
+    ensures { OnOk result (text.new.items ≡ text.old.items ++ stops_text none.now before.now labels.now stops.now.breakpoints.items stops.now.watches.items) }
 {
     if stops.breakpoints.is_empty() && stops.watches.is_empty() {
-        return text.extend_from_slice(b"no breakpoints, and no watched bytes\n");
+        return text.extend_from_slice(none);
     }
     put_breakpoints(alloc, labels, before, &stops.breakpoints, text)?;
     put_watches(alloc, labels, before, &stops.watches, text)

@@ -132,6 +132,7 @@ argument_forms verb.Turn = codes " N"
 argument_forms verb.Run = codes " [ADDR]"
 argument_forms verb.Break = codes " ADDR [if REG=VALUE]"
 argument_forms verb.Watch = codes " ADDR [N]"
+argument_forms verb.Delete = codes " [ADDR]"
 argument_forms verb.Memory = codes " ADDR [N]"
 argument_forms verb.Disassemble = codes " ADDR [N]"
 argument_forms verb.Who = codes " ADDR"
@@ -259,7 +260,7 @@ typed_as known cpu verb.BackRun words = no_arguments verb.BackRun command.BackRu
 typed_as known cpu verb.BackNext words = no_arguments verb.BackNext command.BackNext words
 typed_as known cpu verb.Break words = read_as command.Break (breakpoint known cpu words)
 typed_as known cpu verb.Watch words = read_as (λ at. command.Watch at.0 at.1) (address_and_number known cpu verb.Watch 1 words)
-typed_as known cpu verb.Delete words = no_arguments verb.Delete command.Delete words
+typed_as known cpu verb.Delete words = read_as command.Delete (some_address known cpu verb.Delete words)
 typed_as known cpu verb.Info words = info words
 typed_as known cpu verb.Registers words = no_arguments verb.Registers command.Registers words
 typed_as known cpu verb.Memory words = read_as (λ at. command.Memory at.0 at.1) (address_and_number known cpu verb.Memory 16 words)

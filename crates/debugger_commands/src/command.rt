@@ -37,8 +37,8 @@ pub enum Command {
     Break(Breakpoint),
     /// Stop at turns that change one of these bytes.
     Watch(u16, u16),
-    /// Forget all breakpoints and watched bytes.
-    Delete,
+    /// Forget the breakpoints and the watched bytes at an address, or all.
+    Delete(Option<u16>),
     /// List the breakpoints and the watched bytes.
     Info,
     /// Show the registers, the DMA address and the user.
@@ -352,6 +352,21 @@ fn run<'a>(
     }
 }
 
+/// `delete [ADDR]`
+fn delete<'a>(
+    alloc: Global,
+    labels: &Labels,
+    cpu: &Cpu,
+    words: &[&'a [u8]],
+) -> Result<Reading<'a, Command>, AllocError>
+    ensures { IfOk result (λ read. shown_reading read ≡ typed_as labels.now cpu.now verb.Delete (map (λ w. w.now) words.now)) }
+{
+    match some_address(alloc, labels, cpu, Verb::Delete, words)? {
+        Ok(address) => Ok(Ok(Command::Delete(address))),
+        Err(why) => Ok(Err(why)),
+    }
+}
+
 /// `break ADDR [if REG=VALUE]`
 fn break_at<'a>(
     alloc: Global,
@@ -455,7 +470,7 @@ fn typed_as<'a>(
         Verb::BackNext => Ok(alone(verb, Command::BackNext, words)),
         Verb::Break => break_at(alloc, labels, cpu, words),
         Verb::Watch => watch(alloc, labels, cpu, words),
-        Verb::Delete => Ok(alone(verb, Command::Delete, words)),
+        Verb::Delete => delete(alloc, labels, cpu, words),
         Verb::Info => Ok(info(words)),
         Verb::Registers => Ok(alone(verb, Command::Registers, words)),
         Verb::Memory => memory(alloc, labels, cpu, words),

@@ -104,6 +104,7 @@ impl Verb {
             Verb::Run => b" [ADDR]",
             Verb::Break => b" ADDR [if REG=VALUE]",
             Verb::Watch => b" ADDR [N]",
+            Verb::Delete => b" [ADDR]",
             Verb::Memory => b" ADDR [N]",
             Verb::Disassemble => b" ADDR [N]",
             Verb::Who => b" ADDR",

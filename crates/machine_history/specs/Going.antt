@@ -26,8 +26,8 @@ abbrev pub ShowsTurn : ℕ → Shown → Type 0
 ShowsTurn turn new = (new.turn ≡ turn) ⊎ ((new.turn < turn) × (new.point.end ≢ None))
 
 -- Turns were made from one point to another, and nothing holds at any of them.
-abbrev pub Passes : Option Goal → Stops → ℕ → Shown → Shown → Type 0
-Passes goal stops limit old new = (turns : ℕ) × (turns ≤ limit) × (new.turn ≡ old.turn + turns) × LeadsBy (holds goal stops) turns old.point new.point
+abbrev pub MakesTurns : Option Goal → Stops → ℕ → Shown → Shown → Type 0
+MakesTurns goal stops limit old new = (turns : ℕ) × (turns ≤ limit) × (new.turn ≡ old.turn + turns) × LeadsBy (holds goal stops) turns old.point new.point
 
 -- The turns that were made from one point to another. Something holds at the last of them and at no other; or nothing holds at any of them, and
 -- the run has ended, or all turns that are allowed were made and it goes on.
@@ -35,5 +35,5 @@ abbrev pub RanUntil : Option Goal → Stops → ℕ → Shown → Shown → Outc
 RanUntil goal stops limit old new (outcome.Held why) =
     (before : ℕ) × (last : Point) × (before < limit) × (new.turn ≡ old.turn + before + 1)
     × LeadsBy (holds goal stops) before old.point last × IsNextPoint last new.point × (hit_at goal stops last.state new.point.state ≡ Some why)
-RanUntil goal stops limit old new outcome.Ended = Passes goal stops limit old new × (new.point.end ≢ None)
+RanUntil goal stops limit old new outcome.Ended = MakesTurns goal stops limit old new × (new.point.end ≢ None)
 RanUntil goal stops limit old new outcome.Limit = (new.turn ≡ old.turn + limit) × LeadsBy (holds goal stops) limit old.point new.point × (new.point.end ≡ None)

@@ -72,7 +72,7 @@ impl<'a> History<'a> {
     ghost use Rattle.machine_history.specs.Calls.{IsCallBefore, shown_place};
     ghost use Rattle.machine_history.specs.Stops.{IsLast, end_at, hit_at};
     ghost use Rattle.machine_history.specs.Walk.{IsAfter, IsNextPoint, IsTrue_of_run};
-    ghost use Rattle.machine_history.specs.Going.{IsFirstShown, Passes, RanUntil, ShowsTurn};
+    ghost use Rattle.machine_history.specs.Going.{IsFirstShown, MakesTurns, RanUntil, ShowsTurn};
 
     /// Shows the state in which a program begins with its words on a disk and a console. The bytes of the record come later, each after its
     /// number of turns.
@@ -297,7 +297,7 @@ impl<'a> History<'a> {
         ensures start { self.new.start ≡ self.old.start }
         ensures after { IsTrue_of_run self.new }
         ensures ran { IfOk result (RanUntil goal stops.now limit self.old self.new) }
-        ensures stopped { OnErr result (Passes goal stops.now limit self.old self.new) }
+        ensures stopped { OnErr result (MakesTurns goal stops.now limit self.old self.new) }
     {
         let _ = &self.start;
         for _ in 0..limit {
