@@ -2,6 +2,7 @@ mod Laid
 mod Recorded
 mod Walked
 mod Going
+mod Asked
 mod Sitting
 mod Replayed
 pub mod OneRun

@@ -328,6 +328,10 @@ module _ {S : Type 0} (sectors : S → Image) (faults : S → ℕ) where
   gone None start new other steps = steps
   gone (Some why) start new other steps = absurd (other why refl)
 
+  pub went_on : (end : Option Why) (old new : RunState S Dialog) → ((why : Why) → end ≢ Some why) → IsTurn sectors faults (λ (d : Dialog). d) old end new → IsTurn sectors faults (λ (d : Dialog). d) old None new
+  went_on None old new other turn = turn
+  went_on (Some why) old new other turn = absurd (other why refl)
+
   -- an error of a call ended the session
   pub ended_so : {A : Type 0} (limit : ℕ) (end given : PlayEnd) (result : Result A PlayEnd) (start : PlayState S) (before after : Seat) (p : Playing S) → result ≡ Err given → given ≡ end → Ends sectors faults limit end start before p after
       → WaitsOn sectors faults limit result start before p after

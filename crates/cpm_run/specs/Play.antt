@@ -21,7 +21,7 @@ use Rattle.cpm_run.specs.declared.arriving.PlayEnd.TheVariants as play
 use Rattle.cpm_run.specs.Run.{unstarted}
 use Rattle.cpm_run.specs.Seat.{Seat}
 use Rattle.cpm_run.specs.Start.{IsStart}
-use Rattle.cpm_run.specs.Turns.{Goes, IsTurn, RunState, is_finished}
+use Rattle.cpm_run.specs.Turns.{Goes, IsTurn, RunState, bdos, is_finished}
 
 -- A session so far: the state of the run, on a console in memory; the number of steps; each byte that came, with the number of steps before
 -- it; and what was shown.
@@ -91,17 +91,21 @@ ShowsAll before after new bytes = (more : List ℕ) → Keeps (before.screen (ne
 abbrev pub line_room : {S C : Type 0} → RunState S C → ℕ
 line_room r = memory_byte (de r.machine.cpu.main) r.machine.memory
 
+-- The next step is a call of function 10, which takes a line.
+abbrev pub TakesLine : Cpu → Type 0
+TakesLine cpu = (cpu.pc ≡ bdos) × (cpu.main.c ≡ 10)
+
 -- The echo of a line that is being typed, which is shown before function 10 puts it: what the function would put for the bytes that are
--- there. There is none if no line is being typed.
+-- there. It is empty unless the next step is a call of function 10.
 abbrev pub IsEcho : {S : Type 0} → RunState S Dialog → List ℕ → Type 0
-IsEcho r echo = (echo ≡ []) ⊎ (echo ≡ put_by (typed_line (line_room r) (screen (λ d. d) r.system.terminal)).events)
+IsEcho r echo = (echo ≡ []) ⊎ (TakesLine r.machine.cpu × (echo ≡ put_by (typed_line (line_room r) (screen (λ d. d) r.system.terminal)).events))
 
 -- What the keyboard and the screen tell of a session besides the bytes that arrived.
 -- With the run: all that came has arrived, and all that the program put is shown. A program was told that no key will ever come only if
 -- none was left.
--- If the person left: it was by the keys that came, and the last of these did not arrive. All is shown, and the echo of the line that was not
--- finished.
--- If memory ran out: all is shown that the program put, and some of that echo may be.
+-- If the person left: it was by the keys that came, and the last of these did not arrive. All is shown that the program put, and then such an
+-- echo, which may be empty.
+-- If memory ran out: all is shown that the program put, and then some bytes, of which nothing is said.
 -- If the keyboard or the screen failed: nothing more.
 abbrev pub Sees : {S : Type 0} → PlayEnd → Seat → Seat → PlayState S → Type 0
 Sees (play.Run end) before after new = Consumes before.coming after.coming (arrival_bytes new.arrivals) × (end ≡ why.Stopped stop.EndOfInput → IsAtEnd after.coming)

@@ -1,6 +1,6 @@
 //! Runs a program for somebody at a keyboard.
 
-ghost use Rattle.std.specs.Prelude.{◌≡◌, ◌≤◌, ◌<◌, [], List, OnOk, ℕ, map, true};
+ghost use Rattle.std.specs.Prelude.{◌≡◌, ◌≤◌, ◌<◌, ◌+◌, ◌-◌, [], List, OnOk, ℕ, map, true};
 ghost use Rattle.cpm_fcb.specs.declared.stop.Stop.TheVariants as stop;
 ghost use Rattle.cpm_run.specs.declared.arriving.PlayEnd.TheVariants as play;
 ghost use Rattle.cpm_run.specs.declared.ending.Why.{Why};
@@ -8,7 +8,7 @@ ghost use Rattle.cpm_run.specs.declared.ending.Why.TheVariants as why;
 ghost use Rattle.cpm_run.specs.Run.{unstarted};
 ghost use Rattle.cpm_run.specs.Play.{Arrives, CameBefore, IsPlayed, PlayState, PlayEnds, Sees};
 ghost use Rattle.cpm_run.specs.Seat.{Seat};
-ghost use Rattle.cpm_run.specs.Private.Playing.{Begins, Ends, GoesRound, OnlyShows, state_of};
+ghost use Rattle.cpm_run.specs.Private.Playing.{Begins, Ends, EndsReady, GoesRound, OnlyShows, state_of};
 
 pub(crate) mod state;
 mod waiting;
@@ -25,7 +25,8 @@ use cpm_image::Sectors;
 use state::Playing;
 use std::alloc::Global;
 
-/// At most this number of steps are made before the keyboard is looked at, so that a person can leave a program that makes no calls.
+/// The machine makes at most this number of steps before the session may look at the keyboard again, so that a person can leave a program
+/// that makes no calls. A look comes only once `LONGEST_UNSEEN` steps follow the last one, so up to 4,000,000 steps are between two looks.
 pub(crate) const SLICE: u64 = 2_000_000;
 
 /// How a session ended, the disk then, and the bytes that came.
@@ -60,7 +61,10 @@ impl<S: Sectors> Playing<S> {
         requires looked { self.old.looked ≤ self.old.turns }
         ensures bound { self.new.turns ≤ limit }
         ensures looked { self.new.looked ≤ self.new.turns }
+        ensures most { self.new.turns ≤ self.old.turns + 2000001 }
+        ensures lately { OnOk result (self.new.turns - self.new.looked ≤ 2000000) }
         ensures further { OnOk result (self.old.turns < self.new.turns) }
+        ensures ready { OnOk result ((start : PlayState S) (before : Seat) → Begins S.sectors S.faults start before self.old (K.seat station.old) → EndsReady S.sectors S.faults start self.new) }
         ensures so_far { (start : PlayState S) (before : Seat) → Begins S.sectors S.faults start before self.old (K.seat station.old) → GoesRound S.sectors S.faults limit result start before self.new (K.seat station.new) }
     {
         if let Some(why) = self.compute((limit - self.turns).min(SLICE)) {
@@ -125,7 +129,8 @@ impl<S: Sectors> Playing<S> {
     {
         match end {
             PlayEnd::Run(why) => match self.show(station) {
-                // A step is made only when it has the input that it takes, or when no key will come (`attend`). So this cannot happen.
+                // A step is made only when it has the input that it takes, or when the keyboard has said that no key will come (`attend`).
+                // No clause shows that such a step never ends a run for want of input. So this case is a failure.
                 Ok(()) if lacks_input(why) && !self.ended => PlayEnd::Failed,
                 Ok(()) => PlayEnd::Run(why),
                 Err(_) => PlayEnd::Failed,

@@ -7,6 +7,7 @@ use Rattle.cpm_console.specs.Screen.{screen}
 use Rattle.cpm_run.specs.Play.{line_room}
 use Rattle.cpm_run.specs.Turns.{RunState, bdos, bios_entry}
 use Rattle.cpm_run.specs.declared.asking.Need.{Need}
+use Rattle.cpm_run.specs.declared.station.Patience.{Patience}
 
 -- Function 1 waits for a byte, and function 10 for a line. Function 11, and function 6 with 255 in E, take what has come.
 abbrev pub need_of_function : ℕ → ℕ → Need
@@ -25,3 +26,8 @@ abbrev pub IsReady : {S : Type 0} → Need → RunState S Dialog → Bool → Ty
 IsReady Need.Byte r ended = (ended ≡ true) ⊎ (r.system.terminal.console.input ≢ [])
 IsReady Need.Line r ended = (ended ≡ true) ⊎ ((typed_line (line_room r) (screen (λ d. d) r.system.terminal)).ending ≢ NoInput)
 IsReady need r ended = Unit {0}
+
+-- how the keyboard is asked before a step that waits for nothing
+abbrev pub patience_for : Need → Patience
+patience_for Need.Nothing = Patience.Glance
+patience_for need = Patience.Poll

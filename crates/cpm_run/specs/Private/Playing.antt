@@ -2,6 +2,7 @@
 use Rattle.std.specs.Prelude.{◌≡◌, ◌<◌, ◌≤◌, ◌+◌, ◌++◌, ℕ, Bool, true, false, List, [], Option, None, Some, Result, Ok, Err}
 use Rattle.std.specs.Io.KnownBytes.{Consumes, IsAtEnd, Keeps}
 use Rattle.z80_cpu.specs.State.{machine}
+use Rattle.cpm_console.specs.Dialog.{Dialog}
 use Rattle.cpm_disk.specs.Image.{Image}
 use Rattle.cpm_run.specs.declared.ending.Why.{Why}
 use Rattle.cpm_run.specs.declared.arriving.PlayEnd.{PlayEnd}
@@ -10,7 +11,8 @@ use Rattle.cpm_run.specs.declared.playing.state.Playing.{Playing}
 use Rattle.cpm_run.specs.Play.{Arrives, CameBefore, EndsBy, IsEcho, PlayState, PlaysOn, PlayedRunEnds, arrived, arrival_bytes}
 use Rattle.cpm_run.specs.declared.arriving.Arrival.{Arrival}
 use Rattle.cpm_run.specs.Seat.{Seat}
-use Rattle.cpm_run.specs.Turns.{is_finished}
+use Rattle.cpm_run.specs.Turns.{IsTurn, RunState, is_finished}
+use Rattle.cpm_run.specs.Private.Asking.{IsReady, need_of}
 
 -- the session, given what was shown
 abbrev pub state_of : {S : Type 0} → Playing S → List ℕ → PlayState S
@@ -107,6 +109,18 @@ Ends sectors faults limit play.NoMemory start before p after = IsShort sectors f
 abbrev pub Continues : {A : Type 0} {S : Type 0} → (S → Image) → (S → ℕ) → ℕ → Result A PlayEnd → PlayState S → Seat → Playing S → Seat → Type 0
 Continues sectors faults limit (Ok done) start before p after = SoFar sectors faults start before p after
 Continues sectors faults limit (Err end) start before p after = Ends sectors faults limit end start before p after
+
+-- The last step found what it needs, unless the keyboard had said that no key would come. No byte came after that step; what was shown then is
+-- not said.
+pub record EndsReady {S : Type 0} (sectors : S → Image) (faults : S → ℕ) (start : PlayState S) (p : Playing S) : Type 0 where
+  pub last : PlayState S
+  pub next : RunState S Dialog
+  pub plays : PlaysOn sectors faults start last
+  pub ready : IsReady (need_of last.run.machine.cpu) last.run p.ended
+  pub turn : IsTurn sectors faults (λ d. d) last.run None next
+  pub cpu : p.cpu ≡ next.machine.cpu
+  pub count : p.turns ≡ last.turns + 1
+  pub arrivals : p.arrivals.items ≡ last.arrivals
 
 -- the session between two steps, before the keyboard is asked
 abbrev pub Begins : {S : Type 0} → (S → Image) → (S → ℕ) → PlayState S → Seat → Playing S → Seat → Type 0

@@ -3,7 +3,7 @@
 ghost use Rattle.std.specs.Prelude.{◌≡◌, ◌≢◌, ◌≤◌, ◌<◌, ◌+◌, ◌^◌, ◌-◌, ◌++◌, [], ℕ, false, IfOk, List, MatchOption, OnErr, OnOk, Option, Some};
 ghost use Rattle.cpm_run.specs.Play.{IsEcho, PlayState, PlaysOn, arrived, first_state};
 ghost use Rattle.cpm_run.specs.Seat.{Seat};
-ghost use Rattle.cpm_run.specs.Turns.{is_finished};
+ghost use Rattle.cpm_run.specs.Turns.{IsTurn, is_finished};
 ghost use Rattle.cpm_run.specs.Private.Asking.{IsReady, need_of};
 ghost use Rattle.cpm_run.specs.Private.Playing.{AfterShowing, HasShown, IsStill, IsUnasked, OnlyShows, Stands, Waits, WaitsOn, Went, state_of, taken};
 
@@ -123,6 +123,7 @@ impl<S: Sectors> Playing<S> {
         ensures arrivals { self.new.arrivals.items ≡ self.old.arrivals.items }
         ensures ended { self.new.ended ≡ self.old.ended }
         ensures looked { self.new.looked ≡ self.old.looked }
+        ensures turn { IsTurn S.sectors S.faults (λ d. d) (state_of self.old []).run result (state_of self.new []).run }
         ensures goes { (start : PlayState S) (shown : List ℕ) → PlaysOn S.sectors S.faults start (state_of self.old shown) → Went S.sectors S.faults result start (state_of self.new shown) }
     {
         let end = turn(&mut self.cpu, &mut self.memory, &mut self.bdos);
@@ -140,6 +141,7 @@ impl<S: Sectors> Playing<S> {
         ensures arrivals { self.new.arrivals.items ≡ self.old.arrivals.items }
         ensures ended { self.new.ended ≡ self.old.ended }
         ensures looked { self.new.looked ≡ self.old.looked }
+        ensures turn { IsTurn S.sectors S.faults (λ d. d) (state_of self.old []).run result (state_of self.new []).run }
         ensures goes { (start : PlayState S) (shown : List ℕ) → PlaysOn S.sectors S.faults start (state_of self.old shown) → Went S.sectors S.faults result start (state_of self.new shown) }
     {
         self.take_turn()

@@ -4,9 +4,9 @@ ghost use Rattle.std.specs.Prelude.{◌≡◌, ◌≢◌, ◌<◌, ◌≤◌, �
 ghost use Rattle.cpm_console.specs.Dialog.{dialog_of, put_by};
 ghost use Rattle.cpm_console.specs.Line.{NoInput, line_transcript, typed_line};
 ghost use Rattle.cpm_console.specs.Screen.{screen};
-ghost use Rattle.cpm_run.specs.Play.{IsEcho, PlayState, line_room};
+ghost use Rattle.cpm_run.specs.Play.{IsEcho, PlayState, TakesLine, line_room};
 ghost use Rattle.cpm_run.specs.Seat.{Seat};
-ghost use Rattle.cpm_run.specs.Private.Asking.{IsReady, need_of};
+ghost use Rattle.cpm_run.specs.Private.Asking.{IsReady, need_of, patience_for};
 ghost use Rattle.cpm_run.specs.declared.asking.Need.TheVariants as need;
 ghost use Rattle.cpm_run.specs.Private.Playing.{Continues, IsBetween, IsStill, SoFar, Waits, WaitsOn, state_of};
 
@@ -21,8 +21,8 @@ use std::alloc::{AllocError, Global};
 /// How often the keyboard is asked for a byte before a session gives up. At ten times a second that takes 13 years.
 const MOST_WAITS: u32 = u32::MAX;
 
-/// After this number of steps the keyboard is looked at even if no step has asked for it, so that a person can leave a program that only
-/// prints or computes.
+/// Once this number of steps follows the last look at the keyboard, `attend` looks even if the next step asks for nothing, so that a person
+/// can leave a program that only prints or computes.
 const LONGEST_UNSEEN: u64 = 2_000_000;
 
 /// What function 10 has put so far, and whether the line is whole.
@@ -33,7 +33,9 @@ struct Echo {
 }
 
 /// How the keyboard is asked if the next step can be made at once.
-fn patience_for(need: Need) -> Patience {
+fn patience_for(need: Need) -> Patience
+    ensures { result ≡ patience_for need }
+{
     if need == Need::Nothing {
         Patience::Glance
     } else {
@@ -83,6 +85,7 @@ impl<S: Sectors> Playing<S> {
 
     /// Shows the echo of the line that is being typed, as far as it is not shown yet. Answers whether the line is whole.
     fn echo<K: Station>(&mut self, alloc: Global, station: &mut K) -> Result<bool, PlayEnd>
+        requires line { TakesLine self.old.cpu }
         ensures still { IsStill self.old self.new }
         ensures ended { self.new.ended ≡ self.old.ended }
         ensures whole { IfOk result (λ whole. whole ≡ true → (typed_line (line_room (state_of self.new []).run) (screen (λ d. d) self.new.bdos.terminal)).ending ≢ NoInput) }
@@ -103,6 +106,7 @@ impl<S: Sectors> Playing<S> {
 
     /// Waits until a line is whole, or no byte will come. Shows what is typed meanwhile.
     fn await_line<K: Station>(&mut self, alloc: Global, station: &mut K) -> Result<(), PlayEnd>
+        requires line { TakesLine self.old.cpu }
         ensures still { IsStill self.old self.new }
         ensures ready { OnOk result (IsReady need.Line (state_of self.new []).run self.new.ended) }
         ensures waits { (limit : ℕ) (start : PlayState S) (before : Seat) → Waits S.sectors S.faults limit start before self.old (K.seat station.old) → WaitsOn S.sectors S.faults limit result start before self.new (K.seat station.new) }
@@ -120,6 +124,7 @@ impl<S: Sectors> Playing<S> {
 
     /// Shows all, and looks at the keyboard once or until the next step has what it takes.
     fn ask<K: Station>(&mut self, alloc: Global, station: &mut K, need: Need) -> Result<(), PlayEnd>
+        requires need { need ≡ need_of self.old.cpu }
         ensures still { IsStill self.old self.new }
         ensures ready { OnOk result (IsReady need (state_of self.new []).run self.new.ended) }
         ensures so_far { (limit : ℕ) (start : PlayState S) (before : Seat) → SoFar S.sectors S.faults start before self.old (K.seat station.old) → IsBetween limit self.old → Continues S.sectors S.faults limit result start before self.new (K.seat station.new) }

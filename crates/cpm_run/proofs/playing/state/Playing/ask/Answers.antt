@@ -1,7 +1,12 @@
-use Rattle.std.proofs.Common.{inl}
+use Rattle.std.proofs.Common.{◌∙◌, inl, subst, sym}
 use Rattle.std.proofs.lemmas.Result.{err_from_is_err_and}
+use Rattle.cpm_run.specs.Play.{TakesLine}
 use Rattle.cpm_run.proofs.Sitting.{after_listening, arrives, begun, ended_so, same_arrives, shown_on}
+use Rattle.cpm_run.proofs.Asked.{takes_line}
 use Rattle.cpm_run.proofs.playing.state.Playing.ask.Goals as goal
+
+pub await_line-requires : goal.await_line-requires
+await_line-requires g c = record { line = subst TakesLine (sym c.in_ok-show_all.ensures.still.cpu) (takes_line c.args.self.now.cpu (sym c.requires.need ∙ c.in-Line.is)) }
 
 pub returns-in-Nothing-clause-so_far : goal.returns-in-Nothing-clause-so_far
 returns-in-Nothing-clause-so_far g c = λ limit start before first next.
