@@ -100,3 +100,9 @@ returns-then-branch-clause-talks g c =
     let same_labels = subst (λ (known : Known). GetsLines known t.listing.now rest left line next mid last b d true) c.loop.invariant.labels ends in
     let got = subst (λ l. GetsLines s.labels l.now rest left line next mid last b d true) c.loop.invariant.listing same_labels in
     last_read s.labels s.listing.now talks.0 line from rest left first mid last a b d (sym c.is_over.ensures ∙ c.if-is_over.false) talks.1 talks.2 got.0 got.1 got.2
+
+pub returns-in_err-read_some-clause-so_far : goal.returns-in_err-read_some-clause-so_far
+returns-in_err-read_some-clause-so_far g c = ?
+
+pub returns-clause-so_far : goal.returns-clause-so_far
+returns-clause-so_far g c = ?

@@ -31,3 +31,6 @@ returns-in-Ok-converse-clause-debugged g c =
       subst (λ l. TalksThrough known l.now from left (record { shown = begun.history; stops = begun.stops; is_over = false }) last before after) c.with_listing-session.ensures.listing
           (subst (λ b. TalksThrough known begun.listing.now from left (record { shown = begun.history; stops = begun.stops; is_over = b }) last before after) (c.with_listing-session.ensures.over ∙ c.new-3.ensures.over) talks),
     )
+
+pub returns-in-Err-converse-clause-so_far : goal.returns-in-Err-converse-clause-so_far
+returns-in-Err-converse-clause-so_far g c = ?

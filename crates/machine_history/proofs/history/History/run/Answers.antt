@@ -1,9 +1,16 @@
 use Rattle.std.specs.Prelude.{is_some}
-use Rattle.std.proofs.Common.{◌∙◌, ap, arith, refl, subst, sym}
-use Rattle.machine_history.specs.Walk.{IsTrue_of_run, Shown}
+use Rattle.std.proofs.Common.{◌∙◌, Err, Ok, Result, ap, arith, refl, subst, sym, ℕ}
+use Rattle.std.specs.Result.{OnErr}
+use Rattle.machine_history.specs.Stops.{holds}
+use Rattle.machine_history.specs.Walk.{IsTrue_of_run, LeadsBy, Point, Shown}
 use Rattle.machine_history.specs.Walk.LeadsBy.{none, more}
 use Rattle.machine_history.proofs.Going.{true_more}
 use Rattle.machine_history.proofs.history.History.run.Goals as goal
+
+-- what holds in any case holds after an error
+on_err : {T E P : Type 0} (r : Result T E) → P → OnErr r P
+on_err (Ok x) p = tt
+on_err (Err e) p = p
 
 pub loop-init : goal.loop-init
 loop-init c = record {
@@ -25,4 +32,8 @@ loop-preserved c = record {
 }
 
 pub returns-in_err-hit-clause-stopped : goal.returns-in_err-hit-clause-stopped
-returns-in_err-hit-clause-stopped c = ?
+returns-in_err-hit-clause-stopped c =
+    let same = c.in_err-hit.ensures.stopped in
+    let turn = ap (λ (h : Shown). h.turn) same ∙ c.loop.invariant.turn in
+    let leads = subst (λ (p : Point). LeadsBy (holds c.args.goal c.args.stops.now) c.loop.counter c.args.self.now.point p) (sym (ap (λ (h : Shown). h.point) same)) c.loop.invariant.leads in
+    on_err c.from_residual.result (c.loop.counter, omega (arith, c.loop-test.true), turn, leads)
