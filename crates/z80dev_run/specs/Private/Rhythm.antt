@@ -36,7 +36,7 @@ after_asking how_keys r turns how.Wait = r
 after_asking how_keys r turns how.Glance = r
 after_asking how_keys r turns how.Poll = if is_put_off how_keys r turns then put_off r turns else r
 
--- a look that has this answer gave a byte
+-- a byte came in a look that has this answer
 abbrev pub has_come : Result Came StationFault → Bool
 has_come (Ok (came.Bytes count)) = nat_lt 0 count
 has_come (Ok came.Leave) = true
