@@ -9,13 +9,16 @@ use Rattle.screen_codes.specs.declared.codes.Pending.{Pending}
 use Rattle.screen_codes.specs.declared.screen.Screen.{Screen}
 use Rattle.z80dev_run.specs.declared.desk.Keys.{Keys}
 use Rattle.z80dev_run.specs.declared.desk.Keys.TheVariants as keys
+use Rattle.z80dev_run.specs.declared.rhythm.Rhythm.{Rhythm}
 
--- Standard input, standard output, and the screen that output is shown on; how keys come; and whether the last key is the first half of leaving.
+-- Standard input, standard output, and the screen that output is shown on; how keys come; when the keyboard was looked at; and whether the last
+-- key is the first half of leaving.
 pub record DeskState (I S : Type 0) : Type 0 where
   pub input : I
   pub output : S
   pub screen : Screen
   pub keys : Keys
+  pub rhythm : Rhythm
   pub is_leaving : Bool
 
 -- What is printed for bytes that a program puts, given what those before them have begun. Without screen codes it is these bytes.
@@ -46,3 +49,7 @@ leaves_by keys.Lines is_leaving bytes = false
 -- first half of leaving; and what is known of input and of output.
 abbrev pub seat_of : Codes → Pending → Keys → Bool → Option (List ℕ) → Option (List ℕ) → Seat
 seat_of whose pending keys is_leaving input output = record { screen = λ bytes. append_known output (printed_for whose pending bytes); coming = option_map (as_keys keys) input; leaves = leaves_by keys is_leaving }
+
+-- the same of a desk, given what is known of input and of output
+abbrev pub desk_seat : {I S : Type 0} → DeskState I S → Option (List ℕ) → Option (List ℕ) → Seat
+desk_seat d input output = seat_of d.screen.codes d.screen.pending d.keys d.is_leaving input output

@@ -1,13 +1,14 @@
 //! Somebody at standard input and standard output.
 
 ghost use Rattle.std.specs.Prelude.{◌≡◌, ◌<◌, ◌≤◌, ◌≢◌, ◌++◌, ℕ, List, EachIndex, Ok, false, if◌then◌else◌, length, slice_index, true};
-ghost use Rattle.cpm_run.specs.Seat.{Listens};
+ghost use Rattle.cpm_run.specs.Seat.{Listens, TriesToShow};
 ghost use Rattle.cpm_run.specs.declared.station.Came.TheVariants as came;
-ghost use Rattle.cpm_run.specs.declared.station.Patience.TheVariants as how;
 ghost use Rattle.screen_codes.specs.declared.codes.Pending.TheVariants.{Nothing};
-ghost use Rattle.z80dev_run.specs.Desk.{as_keys, has_left, leaves_by, line_key, seat_of};
+ghost use Rattle.z80dev_run.specs.Desk.{as_keys, desk_seat, has_left, leaves_by, line_key};
+ghost use Rattle.z80dev_run.specs.Private.Rhythm.{HasRead, after_asking, after_look, after_showing, is_due};
 ghost use Rattle.z80dev_run.specs.declared.desk.Keys.TheVariants as keys;
 
+use crate::input::{CR, LF};
 use crate::rhythm::Rhythm;
 use cpm_run::{Came, Patience, Station, StationFault};
 use screen_codes::{Codes, Screen};
@@ -20,10 +21,6 @@ const MOST_LISTENS: u64 = 4_294_967_296;
 
 /// The key Ctrl-\. A person leaves by pressing it twice.
 const LEAVE: u8 = 0x1C;
-
-const CR: u8 = 0x0D;
-
-const LF: u8 = 0x0A;
 
 /// How keys come.
 #[derive(Clone, Copy, Debug, PartialEq, Eq)]
@@ -72,7 +69,7 @@ impl<I: Input, S: Sink> Model for Desk<I, S> {
 
     ghost Value = { DeskState I S };
 
-    ghost view = { λ d. record { input = d.input; output = d.output; screen = d.screen; keys = d.keys; is_leaving = d.is_leaving } };
+    ghost view = { λ d. record { input = d.input; output = d.output; screen = d.screen; keys = d.keys; rhythm = d.rhythm; is_leaving = d.is_leaving } };
 
     ghost invariant = { λ d. (d.state ≡ Open → I.failed d.input ≡ false) × (d.state ≡ Ended → IsAtEnd (I.remaining d.input)) × (d.keys ≡ Raw → d.state ≢ Ended) × (I.reads d.input ≡ d.reads) × (d.reads ≤ MOST_LISTENS) };
 }
@@ -116,6 +113,7 @@ impl<I: Input, S: Sink> Desk<I, S> {
         ensures output { result.output ≡ output }
         ensures screen { result.screen ≡ record { codes = codes; pending = Nothing } }
         ensures keys { result.keys ≡ keys }
+        ensures rhythm { result.rhythm ≡ record { paused = 0; heard = 0; is_busy = true } }
         ensures half { result.is_leaving ≡ false }
     {
         Desk {
@@ -142,9 +140,8 @@ impl<I: Input, S: Sink> Desk<I, S> {
 
     /// Whether the keyboard is to be looked at now.
     fn is_due(&mut self, turns: u64, patience: Patience) -> bool
-        ensures same { self.new ≡ self.old }
-        ensures waits { patience ≡ how.Wait → result ≡ true }
-        ensures lines { patience ≡ how.Glance → self.old.keys ≡ keys.Lines → result ≡ false }
+        ensures due { result ≡ is_due self.old.keys self.old.rhythm turns patience }
+        ensures next { self.new ≡ record self.old { rhythm = after_asking self.old.keys self.old.rhythm turns patience } }
     {
         self.rhythm.is_due(self.keys, turns, patience)
     }
@@ -158,6 +155,7 @@ impl<I: Input, S: Sink> Desk<I, S> {
         ensures output { self.new.output ≡ self.old.output }
         ensures screen { self.new.screen ≡ self.old.screen }
         ensures keys { self.new.keys ≡ self.old.keys }
+        ensures rhythm { self.new.rhythm ≡ self.old.rhythm }
     {
         if self.keys == Keys::Lines {
             make_returns(bytes);
@@ -172,12 +170,15 @@ impl<I: Input, S: Sink> Desk<I, S> {
         Came::Bytes(bytes.len())
     }
 
-    /// Reads standard input once.
-    fn look(&mut self, buffer: &mut [u8]) -> Result<Came, StationFault>
+    /// Reads standard input once, after this number of steps.
+    fn look(&mut self, turns: u64, buffer: &mut [u8]) -> Result<Came, StationFault>
         requires room { 0 < length buffer.old }
         ensures raw { self.old.keys ≡ keys.Raw → result ≢ Ok came.End }
-        ensures listens { Listens (seat_of self.old.screen.codes self.old.screen.pending self.old.keys self.old.is_leaving (I.remaining self.old.input) (S.stream self.old.output).bytes) (seat_of self.new.screen.codes self.new.screen.pending self.new.keys self.new.is_leaving (I.remaining self.new.input) (S.stream self.new.output).bytes) result buffer.new }
+        ensures listens { Listens (desk_seat self.old (I.remaining self.old.input) (S.stream self.old.output).bytes) (desk_seat self.new (I.remaining self.new.input) (S.stream self.new.output).bytes) result buffer.new }
+        ensures reads { HasRead result (I.reads self.old.input) (I.reads self.new.input) }
+        ensures rhythm { self.new.rhythm ≡ after_look turns result }
     {
+        self.rhythm.read_at(turns);
         match self.state {
             InputState::Ended => return Ok(Came::End),
             InputState::Failed => return Err(StationFault),
@@ -204,28 +205,33 @@ impl<I: Input, S: Sink> Desk<I, S> {
             }
         }
     }
-}
 
-impl<I: Input, S: Sink> Station for Desk<I, S> {
-    ghost use Rattle.z80dev_run.specs.Desk.{seat_of};
-
-    ghost seat = { λ d. seat_of d.screen.codes d.screen.pending d.keys d.is_leaving (I.remaining d.input) (S.stream d.output).bytes };
-
-    fn listen(
+    /// Reads what comes into a buffer, if the keyboard is to be looked at now.
+    fn look_if_due(
         &mut self,
         turns: u64,
         patience: Patience,
         buffer: &mut [u8],
-    ) -> Result<Came, StationFault> {
+    ) -> Result<Came, StationFault>
+        ensures listens { Listens (desk_seat self.old (I.remaining self.old.input) (S.stream self.old.output).bytes) (desk_seat self.new (I.remaining self.new.input) (S.stream self.new.output).bytes) result buffer.new }
+        ensures no_room { length buffer.old ≡ 0 → (result ≡ Ok (came.Bytes 0)) × (self.new ≡ self.old) }
+        ensures not_due { 0 < length buffer.old → is_due self.old.keys self.old.rhythm turns patience ≡ false
+            → (result ≡ Ok (came.Bytes 0)) × (self.new ≡ record self.old { rhythm = after_asking self.old.keys self.old.rhythm turns patience }) }
+        ensures due { 0 < length buffer.old → is_due self.old.keys self.old.rhythm turns patience ≡ true
+            → (self.new.rhythm ≡ after_look turns result) × HasRead result (I.reads self.old.input) (I.reads self.new.input) }
+    {
         // A read into a buffer without room gives nothing, which would look like the end of the input.
         if buffer.is_empty() || !self.is_due(turns, patience) {
             return Ok(Came::Bytes(0));
         }
-        self.rhythm.read_at(turns);
-        self.look(buffer)
+        self.look(turns, buffer)
     }
 
-    fn show(&mut self, bytes: &[u8]) -> Result<(), StationFault> {
+    /// Shows bytes.
+    fn show_bytes(&mut self, bytes: &[u8]) -> Result<(), StationFault>
+        ensures shows { TriesToShow bytes.now (desk_seat self.old (I.remaining self.old.input) (S.stream self.old.output).bytes) (desk_seat self.new (I.remaining self.new.input) (S.stream self.new.output).bytes) result }
+        ensures rhythm { self.new.rhythm ≡ after_showing bytes.now self.old.rhythm }
+    {
         if bytes.is_empty() {
             return Ok(());
         }
@@ -244,5 +250,24 @@ impl<I: Input, S: Sink> Station for Desk<I, S> {
             },
             Err(_) => Err(StationFault),
         }
+    }
+}
+
+impl<I: Input, S: Sink> Station for Desk<I, S> {
+    ghost use Rattle.z80dev_run.specs.Desk.{seat_of};
+
+    ghost seat = { λ d. seat_of d.screen.codes d.screen.pending d.keys d.is_leaving (I.remaining d.input) (S.stream d.output).bytes };
+
+    fn listen(
+        &mut self,
+        turns: u64,
+        patience: Patience,
+        buffer: &mut [u8],
+    ) -> Result<Came, StationFault> {
+        self.look_if_due(turns, patience, buffer)
+    }
+
+    fn show(&mut self, bytes: &[u8]) -> Result<(), StationFault> {
+        self.show_bytes(bytes)
     }
 }

@@ -5,9 +5,9 @@ ghost use Rattle.z80dev_run.specs.Input.{begins_line_feed, typed, typed_byte};
 
 use std::alloc::{AllocError, Global};
 
-const CR: u8 = 0x0D;
+pub(crate) const CR: u8 = 0x0D;
 
-const LF: u8 = 0x0A;
+pub(crate) const LF: u8 = 0x0A;
 
 /// What a byte becomes, given the bytes after it; `None` for a CR before an LF.
 fn typed_byte(byte: u8, rest: &[u8]) -> Option<u8>

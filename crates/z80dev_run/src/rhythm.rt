@@ -13,29 +13,28 @@ const BUSY: u64 = 2_000_000;
 /// The same if it has not. Then nearly all the time is spent in waiting, so that a program that only looks for a key leaves the processor free.
 const IDLE: u64 = 200_000;
 
-/// By lines, a program that shows something between any two looks is given what has come after this number of steps. It may have to wait for a
-/// line then, so this is half a second and more.
+/// By lines, no look is put off any more this number of steps after the last read, so that a program that shows something all the time is given
+/// what has come. It may have to wait for a line then, so this is half a second and more.
 const LONGEST_BUSY: u64 = 100_000_000;
 
 /// When the keyboard was looked at, and whether something has happened since.
 #[derive(Clone, Copy)]
 pub(crate) struct Rhythm {
-    /// How many steps were made before the last look.
-    looked: u64,
-    /// How many steps were made before the last read.
+    /// How many steps were made before the present pause: at the last look, or when the look after it was put off.
+    paused: u64,
+    /// How many steps were made before the last look, whether it gave a key, gave none, or was interrupted.
     heard: u64,
-    /// Whether something was shown, or came, since the last read.
+    /// Whether something was shown in the present pause, or came in the look before it.
     is_busy: bool,
 }
 
 impl Rhythm {
     /// Before the first step of a program, which counts as busy.
     pub(crate) fn new() -> Rhythm
-        ensures looked { result.looked ≡ 0 }
-        ensures heard { result.heard ≡ 0 }
+        ensures { result ≡ record { paused = 0; heard = 0; is_busy = true } }
     {
         Rhythm {
-            looked: 0,
+            paused: 0,
             heard: 0,
             is_busy: true,
         }
@@ -48,23 +47,23 @@ impl Rhythm {
         self.is_busy = true;
     }
 
-    /// Notes a read after this number of steps.
+    /// Notes a look after this number of steps.
     pub(crate) fn read_at(&mut self, turns: u64)
-        ensures { self.new ≡ record { looked = turns; heard = turns; is_busy = false } }
+        ensures { self.new ≡ record { paused = turns; heard = turns; is_busy = false } }
     {
-        self.looked = turns;
+        self.paused = turns;
         self.heard = turns;
         self.is_busy = false;
     }
 
-    /// Whether a read by lines is put off, since it may last until a line comes and the program does something meanwhile.
+    /// Whether a look by lines is put off, since it may last until a line comes and the program does something meanwhile.
     fn is_put_off(self, keys: Keys, turns: u64) -> bool
         ensures { result ≡ is_put_off keys self turns }
     {
         keys == Keys::Lines && self.is_busy && turns.saturating_sub(self.heard) < LONGEST_BUSY
     }
 
-    /// How many steps there are between two looks.
+    /// How many steps the present pause has.
     fn pause(self) -> u64
         ensures { result ≡ pause self }
     {
@@ -83,10 +82,10 @@ impl Rhythm {
             Patience::Glance | Patience::Poll => {}
         }
         if self.is_put_off(keys, turns) {
-            self.looked = turns;
+            self.paused = turns;
             self.is_busy = false;
             return false;
         }
-        turns.saturating_sub(self.looked) >= self.pause()
+        turns.saturating_sub(self.paused) >= self.pause()
     }
 }

@@ -1,4 +1,4 @@
-use Rattle.std.proofs.Common.{◌≡◌, ◌<◌, ◌≤◌, ◌≢◌, ◌∙◌, ap, length, arith, get_or-set_other, get_or-set_same, below_more}
+use Rattle.std.proofs.Common.{◌<◌, ◌≤◌, ◌≢◌, ◌∙◌, ap, length, arith, get_or-set_other, get_or-set_same, below_more}
 use Rattle.z80dev_run.specs.Desk.{line_key}
 use Rattle.z80dev_run.proofs.desk.make_returns.Goals as goal
 

@@ -3,12 +3,12 @@ use Rattle.std.specs.Io.KnownBytes.{Appends}
 use denote.Enum.Bare.{same_false}
 use Rattle.screen_codes.specs.contracts.codes.Codes.{the_type}
 use Rattle.screen_codes.specs.Codes.{screen_text}
-use Rattle.z80dev_run.proofs.desk.DeskStation.show.Goals as goal
-use Rattle.z80dev_run.proofs.desk.DeskStation.show.Goals.{in-Ok-print, in-Err-print}
+use Rattle.z80dev_run.proofs.desk.Desk.show_bytes.Goals as goal
+use Rattle.z80dev_run.proofs.desk.Desk.show_bytes.Goals.{in-Ok-print, in-Err-print}
 use Rattle.z80dev_run.proofs.Printed.{shows_bytes}
 
-pub returns-after-print-2 : goal.returns-after-print-2
-returns-after-print-2 g c =
+pub returns-after-print-2-clause-shows : goal.returns-after-print-2-clause-shows
+returns-after-print-2-clause-shows g c =
     let shown = c.in-Ok-show.ensures in
     elim c.match-print-2.branch [
       | in-Ok-print w ↦
