@@ -1,12 +1,12 @@
 -- Conversations, one after the other.
-use Rattle.std.proofs.Common.{◌≡◌, ◌++◌, ◌∷◌, ◌∙◌, List, [], ℕ, Bool, Option, None, Some, false, true, inl, inr, ap, refl, sym, subst, append-nil, append_assoc}
+use Rattle.std.proofs.Common.{◌≡◌, ◌++◌, ◌∷◌, ◌∙◌, ◌⊎◌, List, [], ℕ, Bool, Option, None, Some, false, true, inl, inr, ap, refl, sym, subst, append-nil, append_assoc}
 use Rattle.std.proofs.KnownBytes.{Appends-nil, Appends-trans, Consumes-trans}
 use Rattle.std.proofs.lemmas.Bool.{true≢false}
 use Rattle.std.proofs.lemmas.Grind.{flat_map-append}
 use Rattle.std.proofs.lemmas.List.Elements.{All-append, All-nil, All-push}
 use Rattle.std.specs.Io.KnownBytes.{Appends, Consumes, IsAtEnd, Keeps}
 use Rattle.streams.specs.Stream.{Stream}
-use Rattle.debugger.specs.Conversation.{BeginsLines, HasNoEnd, SessionState, Talks, TalksOn, TalksThrough, with_ends}
+use Rattle.debugger.specs.Conversation.{BeginsLines, HasNoEnd, SessionState, Talks, TalksOn, TalksSoFar, TalksThrough, with_ends}
 use Rattle.debugger.specs.Conversation.Talks.{none, more}
 use Rattle.state_text.specs.Labelled.{Known}
 use Rattle.debugger.specs.Private.Lines.{IsNextLine, TakesAllLines, TakesLines}
@@ -114,6 +114,15 @@ lines_on known listing line front back mid_line next old mid new a b c going bef
     (all.0 ++ after.0, after.1, (begins.0, sym (append_assoc line front back) ∙ begins.1), after.3, talk_on known listing all.0 after.0 old mid new a b c all.3 after.4)
 
 -- ---- the lines of an input
+
+-- what is left is the beginning of a line, unless the session was quit
+begun : (tail next : List ℕ) (is_over : Bool) → IsNextLine tail next is_over → (is_over ≡ true) ⊎ HasNoEnd tail
+begun tail next is_over (inl is) = inr (subst HasNoEnd (sym is.0) is.1)
+begun tail next is_over (inr quit) = inl quit
+
+pub so_far : (known : Known) (listing bytes next : List ℕ) (from left : Option (List ℕ)) (old new : SessionState) (a b : Stream) → Consumes from left bytes → TakesLines known listing [] bytes next old new a b
+    → TalksSoFar known listing from left old new a b
+so_far known listing bytes next from left old new a b reads takes = (bytes, takes.0, takes.1, reads, takes.2, begun takes.1 next new.is_over takes.3, takes.4)
 
 pub quit_read : (known : Known) (listing bytes next : List ℕ) (from left : Option (List ℕ)) (old new : SessionState) (a b : Stream) → new.is_over ≡ true
     → Consumes from left bytes → TakesLines known listing [] bytes next old new a b → TalksThrough known listing from left old new a b

@@ -1,10 +1,11 @@
-use Rattle.std.proofs.Common.{◌≡◌, ◌∙◌, ◌++◌, List, [], Bool, ℕ, arith, false, true, refl, subst, sym}
+use Rattle.std.proofs.Common.{rules, ◌≡◌, ◌∙◌, ◌++◌, List, [], Bool, ℕ, append-nil, arith, false, true, refl, subst, sym}
 use Rattle.std.proofs.KnownBytes.{Consumes-nil, Consumes-trans}
+use Rattle.std.specs.Io.KnownBytes.{Consumes}
 use Rattle.std.proofs.lemmas.List.Elements.{All-nil}
-use Rattle.debugger.specs.Conversation.{SessionState}
+use Rattle.debugger.specs.Conversation.{SessionState, TalksSoFar}
 use Rattle.state_text.specs.Labelled.{Known}
 use Rattle.debugger.specs.Private.Lines.{GetsLines, TakesLines}
-use Rattle.debugger.proofs.Talking.{all_taken, going_on, last_read, lines_on, quit_read, untaken}
+use Rattle.debugger.proofs.Talking.{all_taken, going_on, last_read, lines_on, quit_read, so_far, untaken}
 use Rattle.debugger.proofs.conversation.converse.Goals as goal
 
 pub loop-init : goal.loop-init
@@ -102,7 +103,25 @@ returns-then-branch-clause-talks g c =
     last_read s.labels s.listing.now talks.0 line from rest left first mid last a b d (sym c.is_over.ensures ∙ c.if-is_over.false) talks.1 talks.2 got.0 got.1 got.2
 
 pub returns-in_err-read_some-clause-so_far : goal.returns-in_err-read_some-clause-so_far
-returns-in_err-read_some-clause-so_far g c = ?
+returns-in_err-read_some-clause-so_far g c = λ failed.
+    let s = c.args.session.now in
+    let t = c.loop.session in
+    let first : SessionState = record { shown = s.history; stops = s.stops; is_over = s.is_over } in
+    let from = g.I.Input.remaining c.args.input.now in
+    let rest = g.I.Input.remaining c.loop.input in
+    let left = g.I.Input.remaining c.read_some.new.input in
+    let a = g.O.Sink.stream c.args.output.now in
+    let talks = c.loop.invariant.talks in
+    let unread = c.in_err-read_some.ensures.unread (search rules) in
+    let whole = subst (Consumes from left) (append-nil talks.0) (Consumes-trans from rest left talks.0 [] talks.1 unread.2) in
+    subst (λ u. TalksSoFar s.labels s.listing.now from left first (record { shown = u.history; stops = u.stops; is_over = u.is_over }) a (g.O.Sink.stream c.read_some.new.output)) (sym unread.0)
+    (subst (λ o. TalksSoFar s.labels s.listing.now from left first (record { shown = t.history; stops = t.stops; is_over = t.is_over }) a (g.O.Sink.stream o)) (sym unread.1)
+    (so_far s.labels s.listing.now talks.0 c.loop.line.items from left first (record { shown = t.history; stops = t.stops; is_over = t.is_over }) a (g.O.Sink.stream c.loop.output) whole talks.2))
 
 pub returns-clause-so_far : goal.returns-clause-so_far
-returns-clause-so_far g c = ?
+returns-clause-so_far g c = λ failed.
+    let s = c.args.session.now in
+    let t = c.loop.session in
+    let talks = c.loop.invariant.talks in
+    so_far s.labels s.listing.now talks.0 c.loop.line.items (g.I.Input.remaining c.args.input.now) (g.I.Input.remaining c.loop.input) (record { shown = s.history; stops = s.stops; is_over = s.is_over })
+    (record { shown = t.history; stops = t.stops; is_over = t.is_over }) (g.O.Sink.stream c.args.output.now) (g.O.Sink.stream c.loop.output) talks.1 talks.2

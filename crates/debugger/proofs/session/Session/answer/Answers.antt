@@ -4,7 +4,8 @@ use Rattle.state_text.specs.Labelled.{Known}
 use Rattle.debugger.specs.Private.Listing.{ListsStops}
 use Rattle.debugger.specs.Session.{AnswersAs}
 use Rattle.debugger.specs.Text.{Says}
-use Rattle.debugger_commands.specs.Typed.{Reading, shown_reading}
+use Rattle.debugger_commands.specs.Typed.{Reading, line_meaning, shown_reading}
+use Rattle.z80_cpu.specs.declared.registers.Cpu.{Cpu}
 use Rattle.machine_history.specs.Walk.{MemoryState, Point}
 use Rattle.debugger_commands.specs.declared.command.Command.{Command}
 use Rattle.debugger.proofs.session.Session.answer.Goals as goal
@@ -16,8 +17,10 @@ returns-in_ok-told-in-Ok-Some-clause-obeys c =
     let command = c.in-Ok-Some.command in
     let told = c.in_ok-told-in-Ok-Some.told in
     let step = c.in_ok-told-in-Ok-Some.ensures in
-    let meaning = sym c.in_ok-command.ensures ∙ ap shown_reading c.in-Ok-Some.is ∙ ap (λ (it : Option Command). Ok it) c.in-Ok-Some.field-0-is in
-    let printed = ap (λ (m : MemoryState). m.system.terminal.console.output) (sym (c.snapshot.ensures ∙ ap (λ (p : Point). p.state) c.point.ensures.point)) ∙ c.output-printed.ensures in
+    let state = c.snapshot-snapshot.ensures ∙ ap (λ (p : Point). p.state) c.point.ensures.point in
+    let cpu = c.cpu.ensures ∙ ap (λ (m : MemoryState). m.machine.cpu) state in
+    let meaning = ap (λ (it : Cpu). line_meaning s.labels it c.args.line.now) (sym cpu) ∙ sym c.in_ok-command.ensures ∙ ap shown_reading c.in-Ok-Some.is ∙ ap (λ (it : Option Command). Ok it) c.in-Ok-Some.field-0-is in
+    let printed = ap (λ (m : MemoryState). m.system.terminal.console.output) (sym state) ∙ c.output-printed.ensures in
     let listed = subst (λ (known : Known). ListsStops command s.stops known c.in_ok-listed-in-Ok-Some.listed.items) (sym step.labels) c.in_ok-listed-in-Ok-Some.ensures in
     let says = c.said.ensures s.stops s.history c.output-printed.result.now listed printed refl in
     IfOk-weaker c.said.result _ _ (λ text said. (
