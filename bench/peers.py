@@ -23,6 +23,10 @@ class Z80dev:
         """The commands that make a program of one source text."""
         return [[self.path, "build", "--out", base, f"{base}.asm"]]
 
+    def build_all(self, base, sources, shared):
+        """The command that makes a program of some source texts, which share the lines of some files."""
+        return [self.path, "build", "--out", base, *(word for file in shared for word in ("--with", file)), *sources]
+
     def assemble(self, base):
         return [self.path, "asm", "--out", base, f"{base}.asm"]
 

@@ -404,6 +404,11 @@ def mixed(dialect, statements, calls=True):
     return Mix(dialect, statements, 23, calls=calls).source()
 
 
+def shared(count):
+    """Lines that the modules of a program share: a number in every line, of which every third comes from another one."""
+    return lines_of(f"S{k} EQU S{k - 2}+{k % 7}" if k % 3 == 2 else f"S{k} EQU {37 * k % 1000}" for k in range(count))
+
+
 def module(dialect, number, count, statements):
     publics = [f"M{number}A", f"M{number}B"]
     there = (number + 1) % count
