@@ -41,6 +41,10 @@ AppendsFront old new bytes = (n : ℕ) × Appends old.bytes new.bytes (take n by
 abbrev pub PutsAll : Stream → Stream → List ℕ → Type 0
 PutsAll old new bytes = Appends old.bytes new.bytes bytes × (new.failures ≡ old.failures)
 
+-- all of the bytes are written, and no buffer holds any of them back
+abbrev pub PrintsAll : Stream → Stream → List ℕ → Type 0
+PrintsAll old new bytes = PutsAll old new bytes × (new.held ≡ false)
+
 -- the stream failed once, and only the first of the bytes are written
 abbrev pub PutsFront : Stream → Stream → List ℕ → Type 0
 PutsFront old new bytes = AppendsFront old new bytes × (new.failures ≡ counted old.failures)
@@ -49,6 +53,11 @@ PutsFront old new bytes = AppendsFront old new bytes × (new.failures ≡ counte
 abbrev pub Puts : Stream → Stream → List ℕ → Result Unit WriteFailed → Type 0
 Puts old new bytes (Ok _) = PutsAll old new bytes
 Puts old new bytes (Err _) = PutsFront old new bytes
+
+-- what printing bytes does
+abbrev pub Prints : Stream → Stream → List ℕ → Result Unit WriteFailed → Type 0
+Prints old new bytes (Ok _) = PrintsAll old new bytes
+Prints old new bytes (Err _) = PutsFront old new bytes
 
 -- The bytes that a buffer holds back are written out; they already count as written.
 abbrev pub Hands_on : Stream → Stream → Result Unit WriteFailed → Type 0
