@@ -7,7 +7,7 @@ use Rattle.disassembler.specs.Faults.{disassembly_fault_text}
 use Rattle.disassembler.specs.declared.fault.DisassemblyFault.{DisassemblyFault}
 use Rattle.disassembler.specs.declared.fault.DisassemblyFault.TheVariants as fault
 use Rattle.streams.specs.Stream.{Stream}
-use Rattle.streams.specs.Writing.{PutsAll, PutsFront}
+use Rattle.streams.specs.Writing.{PrintsAll, PutsFront}
 use Rattle.z80dev.specs.Verdict.{VerdictEnds}
 use Rattle.z80dev_commands.specs.declared.job.Asm.{Asm}
 use Rattle.z80dev_commands.specs.declared.job.Build.{Build}
@@ -106,7 +106,7 @@ CheckEnds sizes cert x e = With sizes (λ s. With cert (λ c. (x.new ≡ x.old) 
 
 -- A source of a program is printed, or the program, its labels or its entries are refused.
 abbrev pub PrintsSource : List ℕ → Option (List ℕ) → List (List ℕ) → Effect → End → Type 0
-PrintsSource program labels entries x end.Done = (text : Vec ℕ Global) × IsDisassembly program labels entries (Ok text) × PutsAll x.before x.after text.items
+PrintsSource program labels entries x end.Done = (text : Vec ℕ Global) × IsDisassembly program labels entries (Ok text) × PrintsAll x.before x.after text.items
 PrintsSource program labels entries x (end.Refused said) =
     (why : DisassemblyFault) × (why ≢ fault.NoMemory) × IsDisassembly program labels entries (Err why) × (string_bytes said ≡ disassembly_fault_text why) × (x.after ≡ x.before)
 PrintsSource program labels entries x (end.File path last) = ⊥

@@ -4,16 +4,16 @@ use Rattle.std.specs.Borrow.{Bor}
 use Rattle.std.specs.List.{list_any}
 use Rattle.std.specs.Option.{option_map_or}
 use Rattle.std.specs.Path.{dot, rfind_below, slash}
-use Rattle.std.specs.Str.{bytes_eq}
 use Rattle.z80dev_finish.specs.Finishing.{path_of}
+use Rattle.z80dev_finish.specs.Paths.{is_same_path}
 use Rattle.z80dev_finish.specs.declared.answer.Kind.{Kind}
 use Rattle.job_steps.specs.Ending.{over_text}
 
--- the first of the paths with this base that is one of those that are read
+-- the first of the paths with this base that names one of the files that are read
 abbrev pub overwritten : List ℕ → List Kind → List (List ℕ) → Option (List ℕ)
-overwritten base kinds read = find (λ path. list_any (bytes_eq path) read) (map (path_of base) kinds)
+overwritten base kinds read = find (λ path. list_any (is_same_path path) read) (map (path_of base) kinds)
 
--- Why a command may not write files of these kinds with this base: the base is empty, or the path of one of them is read.
+-- Why a command may not write files of these kinds with this base: the base is empty, or one of them is a file that is read.
 abbrev pub why_not_written : List ℕ → List Kind → List (List ℕ) → Option (List ℕ)
 why_not_written [] kinds read = Some (codes "NoBase")
 why_not_written (byte ∷ more) kinds read = option_map over_text (overwritten (byte ∷ more) kinds read)

@@ -3,12 +3,13 @@
 ghost use Rattle.std.specs.Prelude.{◌≡◌, ◌++◌, ◌==◌, IfOk, map, option_map, string_bytes};
 ghost use Rattle.std.specs.List.{list_any};
 ghost use Rattle.std.specs.Path.{slash};
-ghost use Rattle.std.specs.Str.{bytes_eq};
+ghost use Rattle.z80dev_finish.specs.Paths.{is_same_path};
 ghost use Rattle.build_jobs.specs.Outputs.{base_of, begins_ending, ends_before_name, overwritten, why_not_written, without_ending};
 ghost use Rattle.build_jobs.specs.Private.Steps.{IsClear};
 
 use std::alloc::{AllocError, Global};
 use z80dev::{End, Kind};
+use z80dev_finish::is_same_path;
 
 /// Whether there is a slash in a path.
 fn has_slash(path: &str) -> bool
@@ -56,21 +57,21 @@ pub(crate) fn base_of<'a>(out: Option<&'a str>, sources: &[&'a str]) -> &'a str
     }
 }
 
-/// Whether a path is one of these.
+/// Whether a path names the same file as one of these.
 fn is_among(path: &str, paths: &[&str]) -> bool
-    ensures { result ≡ list_any (λ other. bytes_eq path.now other.now) paths.now }
+    ensures { result ≡ list_any (λ other. is_same_path path.now other.now) paths.now }
 {
-    paths.iter().any(|other| path == *other)
+    paths.iter().any(|other| is_same_path(path, other))
 }
 
-/// Whether a path is one of the shared files or of the sources.
+/// Whether a path names one of the shared files or of the sources.
 fn is_read(path: &str, shared: &[&str], sources: &[&str]) -> bool
-    ensures { result ≡ list_any (bytes_eq path.now) (map (λ other. other.now) shared.now ++ map (λ other. other.now) sources.now) }
+    ensures { result ≡ list_any (is_same_path path.now) (map (λ other. other.now) shared.now ++ map (λ other. other.now) sources.now) }
 {
     is_among(path, shared) || is_among(path, sources)
 }
 
-/// The first path of the files to write that is one of those that are read.
+/// The first path of the files to write that names one of those that are read.
 fn overwritten(
     alloc: Global,
     base: &str,

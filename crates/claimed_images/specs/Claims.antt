@@ -39,10 +39,10 @@ HasClaimed old new path wanted is_held bytes = (accepts : Test) × (new ≡ clai
     × IsLockWanted wanted is_held × IsRead old path bytes
 
 -- An image is not claimed, though its lock was asked for; or memory ran out, in the claim or just after it.
-abbrev pub IsNotClaimed : Folder → Folder → List ℕ → End → Type 0
-IsNotClaimed old new path (end.File at last) = (at.now ≡ path) × (last.now ≡ []) × (((new ≡ after_asking old) × IsUnreadable old.files path) ⊎ FailsSo (after_asking old) new)
-IsNotClaimed old new path end.NoMemory = (new ≡ after_asking old) ⊎ ((is_wanted is_held : Bool) × (accepts : Test) × (new ≡ claimed_by old path is_wanted is_held accepts))
-IsNotClaimed old new path _ = ⊥
+abbrev pub IsNotClaimed : Folder → Folder → List ℕ → Bool → End → Type 0
+IsNotClaimed old new path wanted (end.File at last) = (at.now ≡ path) × (last.now ≡ []) × (((new ≡ after_asking old) × IsUnreadable old.files path) ⊎ FailsSo (after_asking old) new)
+IsNotClaimed old new path wanted end.NoMemory = (new ≡ after_asking old) ⊎ ((is_held : Bool) × (bytes : List ℕ) × HasClaimed old new path wanted is_held bytes)
+IsNotClaimed old new path wanted _ = ⊥
 
 -- A claimed file is replaced by these bytes under its lock, unless it has them already: then it is not touched, and keeps its time.
 abbrev pub KeepsFile : List ℕ → List ℕ → List ℕ → Folder → Folder → Result Unit End → Type 0
@@ -61,4 +61,4 @@ ReadsImageFile old new path (Err e) = IsNotRead old new path e
 
 abbrev pub ClaimsImage : Folder → Folder → List ℕ → Bool → Result Image End → Type 0
 ClaimsImage old new path wanted (Ok image) = (is_held : Bool) × HasClaimed old new path wanted is_held image.bytes.items × (image_lines image ≡ warnings path (length image.bytes.items) (wanted && not is_held))
-ClaimsImage old new path wanted (Err e) = IsNotClaimed old new path e
+ClaimsImage old new path wanted (Err e) = IsNotClaimed old new path wanted e

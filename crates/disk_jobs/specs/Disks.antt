@@ -29,7 +29,8 @@ use Rattle.z80dev_finish.specs.Answers.{MemoryAside}
 use Rattle.z80dev_finish.specs.Files.{Adds, FailsSo, File, Folder, IsLockWanted, IsToBeKept, Places, Replaced, ReplacedOrNot, after_asking, locked_by, spent}
 use Rattle.z80dev_finish.specs.declared.end.End.{End}
 use Rattle.z80dev_finish.specs.declared.end.End.TheVariants as end
-use Rattle.job_steps.specs.Ending.{CarriesOut, Effect, LineAt, NothingDone, Refuses, With, WithAll}
+use Rattle.job_steps.specs.Ending.{CarriesOut, Effect, LineAt, NothingDone, Refuses, With, WithAll, over_text}
+use Rattle.z80dev_finish.specs.Paths.{is_same_path}
 use Rattle.claimed_images.specs.Claims.{warnings, HasClaimed, IsNotClaimed, KeepsFile}
 use Rattle.cpm_directory.specs.declared.entry.TheConstants.{USERS}
 
@@ -62,7 +63,7 @@ NamedAll name_in words Does x e =
 abbrev pub Claiming : List ℕ → Bool → (List ℕ → Bool → Effect → Type 0) → Effect → End → Type 0
 Claiming path wanted Does x e =
     ((bytes : List ℕ) × (is_held : Bool) × (claimed : Folder) × HasClaimed x.old claimed path wanted is_held bytes × Does bytes is_held (record x { old = claimed }))
-    ⊎ (IsNotClaimed x.old x.new path e × (x.after ≡ x.before))
+    ⊎ (IsNotClaimed x.old x.new path wanted e × (x.after ≡ x.before))
 
 -- How a command ends that only keeps an image.
 abbrev pub KeepsImage : List ℕ → List ℕ → List ℕ → Effect → End → Type 0
@@ -173,9 +174,15 @@ GetsInto image user text pattern folder x wanted e = InFolder folder (GetsMatchi
 abbrev pub GetAllEnds : List ℕ → ℕ → Bool → List ℕ → Effect → Option (List ℕ) → End → Type 0
 GetAllEnds image user text folder x line e = Warns (λ wanted e. GetsInto image user text (codes "???????????") folder x wanted e) line e
 
+-- A command that would write over a file that it reads refuses that before it reads anything.
+abbrev pub UnlessRead : Bool → List ℕ → Type 0 → Effect → End → Type 0
+UnlessRead true path Rest x e = Refuses (over_text path) x e
+UnlessRead false path Rest x e = Rest
+
 -- `get`: the file of a name; or into a folder all that match, if the word has `?` or `*`
 abbrev pub GetsNamed : Option (List ℕ) → List ℕ → ℕ → Bool → List ℕ → List ℕ → Effect → Option (List ℕ) → End → Type 0
-GetsNamed (Some name) image user text word path x wanted e = ReadsImage image (λ bytes. CarriesOut path (MemoryAside (IsGet bytes user name text)) x e) x wanted e
+GetsNamed (Some name) image user text word path x wanted e =
+    UnlessRead (is_same_path path image) path (ReadsImage image (λ bytes. CarriesOut path (MemoryAside (IsGet bytes user name text)) x e) x wanted e) x e
 GetsNamed None image user text word path x wanted e = Named (pattern_of word) (λ pattern. GetsInto image user text pattern path x wanted e) x e
 
 abbrev pub GetEnds : Get → Effect → Option (List ℕ) → End → Type 0

@@ -15,7 +15,7 @@ use std::alloc::{AllocError, Global};
 use streams::Sink;
 use z80dev_commands::Get;
 use z80dev_disk::{Gotten, Name, file_name, get, get_all};
-use z80dev_finish::{End, Files, finish};
+use z80dev_finish::{End, Files, finish, is_same_path};
 
 /// The pattern that matches every name.
 const ALL: [u8; 11] = [b'?'; 11];
@@ -112,7 +112,7 @@ pub(crate) fn get_every<'a, F: Files>(
     get_into(alloc, image, user, text, &ALL, folder, files)
 }
 
-/// Gets the file of a name.
+/// Gets the file of a name. It may not be written over the image.
 fn get_named<'a, F: Files, W: Sink>(
     alloc: Global,
     image: &'a str,
@@ -126,6 +126,9 @@ fn get_named<'a, F: Files, W: Sink>(
     requires user { user < USERS }
     ensures { (word : List ℕ) → EndsWarned (GetsNamed (Some name.now) image.now user text word path.now (effect_of (F.folder files.old) (F.folder files.new) (W.stream output.old) (W.stream output.new))) result }
 {
+    if is_same_path(path, image) {
+        return Err(End::Refused(format!(in alloc; "Overwrites({path})")?));
+    }
     let read = read_image(alloc, image, files)?;
     let answer = get(alloc, &read.bytes, user, name, text);
     let end = finish(alloc, path, &answer, files, output);

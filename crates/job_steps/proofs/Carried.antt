@@ -1,5 +1,5 @@
 -- From what `finish` does to what a command does.
-use Rattle.std.proofs.Common.{◌≡◌, ℕ, List, Option, None, Some, Result, Ok, Err, ap, inl, inr, refl, subst, string_bytes}
+use Rattle.std.proofs.Common.{◌≡◌, ℕ, List, Option, None, Some, Result, Ok, Err, ap, inl, inr, refl, subst, sym, string_bytes}
 use Rattle.std.specs.Option.{option_map}
 use Rattle.streams.specs.Stream.{Stream}
 use Rattle.streams.specs.Writing.{Puts}
@@ -12,16 +12,18 @@ use Rattle.z80dev_finish.specs.declared.answer.Answer as made
 use Rattle.z80dev_finish.specs.declared.end.End.{End}
 use Rattle.z80dev_finish.specs.declared.end.End.TheVariants as end
 use Rattle.job_steps.specs.Reporting.{TellsWith}
-use Rattle.job_steps.specs.Ending.{IsCarriedOut, LineAt, SaysWhy, effect_of, Effect, NothingDone, Refuses, RefusesText}
+use Rattle.job_steps.specs.Ending.{IsCarriedOut, LineAt, effect_of, Effect, NothingDone, Refuses, RefusesText}
 
-why_said : {R : Type 0} (text : R → List ℕ) (refusal : Option R) (said : List ℕ) → IsWhy (λ r. Some (text r)) refusal said → SaysWhy (option_map text refusal) said
-why_said text None said none = absurd none
-why_said text (Some why) said is = is
+why_said : {R : Type 0} (text : R → List ℕ) (refusal : Option R) (said : Option (List ℕ)) → IsWhy (λ r. Some (text r)) refusal said → option_map text refusal ≡ said
+why_said text None None none = refl
+why_said text None (Some said) none = absurd none
+why_said text (Some why) None none = absurd none
+why_said text (Some why) (Some said) is = ap Some (sym is)
 
 finished : {R : Type 0} (text : R → List ℕ) (base : List ℕ) (a : made.Answer R) (old new : Folder) (before after : Stream) (e : End)
     → Finishes (λ r. Some (text r)) base a old new before after e → IsCarriedOut base (answer_by text a) (effect_of old new before after) e
-finished text base a old new before after end.Done does = (does.0, does.1, ap (option_map text) does.2)
-finished text base a old new before after (end.Refused said) does = (does.0, does.1, why_said text a.refusal (string_bytes said) does.2)
+finished text base a old new before after end.Done does = (does.0, does.1, why_said text a.refusal None does.2)
+finished text base a old new before after (end.Refused said) does = (does.0, does.1, why_said text a.refusal (Some (string_bytes said)) does.2)
 finished text base a old new before after (end.File path last) does = does
 finished text base a old new before after (end.Path path) does = absurd does
 finished text base a old new before after end.Stream does = does

@@ -1,11 +1,10 @@
 -- How commands end that read files, make files of them, and print lines.
-use Rattle.std.specs.Prelude.{ℕ, List, ◌++◌, codes, ◌≡◌, ◌⊎◌, [], Option, None, Some, Result, Ok, Err, string_bytes, String, Vec, option_map}
+use Rattle.std.specs.Prelude.{ℕ, List, ◌++◌, codes, ◌≡◌, ◌⊎◌, [], Option, None, Result, Ok, Err, string_bytes, String, Vec, option_map}
 use Rattle.std.specs.List.{AllZip}
 use Rattle.streams.specs.Stream.{Stream}
-use Rattle.streams.specs.Writing.{PutsAll, PutsFront}
 use Rattle.z80dev_finish.specs.Answers.{Answer}
 use Rattle.z80dev_finish.specs.Files.{Folder}
-use Rattle.z80dev_finish.specs.Finishing.{AllWritten, IsBrokenOff, IsUnwritten}
+use Rattle.z80dev_finish.specs.Finishing.{WritesAndPrints}
 use Rattle.z80dev_finish.specs.declared.end.End.{End}
 use Rattle.z80dev_finish.specs.declared.end.End.TheVariants as end
 use Rattle.job_steps.specs.Reading.{IsNotRead, IsOneNotRead, IsRead}
@@ -40,20 +39,9 @@ Refuses why x (end.Refused said) = (string_bytes said ≡ why) × NothingDone x
 Refuses why x end.NoMemory = NothingDone x
 Refuses why x _ = ⊥
 
--- the text of a refusal is this
-abbrev pub SaysWhy : Option (List ℕ) → List ℕ → Type 0
-SaysWhy None said = ⊥
-SaysWhy (Some why) said = said ≡ why
-
--- An answer is carried out: its files are written in their order, then its lines are printed, then what it says is the end. A file that cannot
--- be written, and standard output that fails, are the end before that.
+-- The files of an answer are written, its lines are printed, and what it says is the end.
 abbrev pub IsCarriedOut : List ℕ → Answer → Effect → End → Type 0
-IsCarriedOut base a x end.Done = AllWritten base a.files x.old x.new × PutsAll x.before x.after a.printed × (a.said ≡ None)
-IsCarriedOut base a x (end.Refused said) = AllWritten base a.files x.old x.new × PutsAll x.before x.after a.printed × SaysWhy a.said (string_bytes said)
-IsCarriedOut base a x (end.File path last) = IsUnwritten base a.files x.old x.new path.now last.now × (x.after ≡ x.before)
-IsCarriedOut base a x (end.Path path) = ⊥
-IsCarriedOut base a x end.Stream = AllWritten base a.files x.old x.new × PutsFront x.before x.after a.printed
-IsCarriedOut base a x end.NoMemory = ((x.new ≡ x.old) ⊎ IsBrokenOff base a.files x.old x.new) × (x.after ≡ x.before)
+IsCarriedOut base a x e = WritesAndPrints base a.files a.printed (λ said. a.said ≡ said) x.old x.new x.before x.after e
 
 -- One of the answers that are right is carried out.
 abbrev pub CarriesOut : List ℕ → (Answer → Type 0) → Effect → End → Type 0

@@ -25,6 +25,7 @@ use Rattle.job_steps.specs.Reporting.{either}
 use Rattle.job_steps.specs.World.{World}
 use Rattle.run_jobs.specs.declared.running.Inputs.{Inputs}
 use Rattle.cpm_run.specs.Seat.{Seat}
+use Rattle.z80dev_finish.specs.Paths.{is_same_path}
 use Rattle.z80dev_run.specs.Desk.{seat_of}
 use Rattle.z80dev_run.specs.declared.desk.Keys.{Keys}
 use Rattle.z80dev_run.specs.declared.desk.Keys.TheVariants.{Raw, Lines}
@@ -51,10 +52,10 @@ abbrev pub bad_terminal : Option (Bor (List ℕ)) → Option (List ℕ)
 bad_terminal None = None
 bad_terminal (Some word) = if is_some (codes_named word.now) then None else Some (codes "BadTerminal(" ++ word.now ++ codes ")")
 
--- a file of this path, as it is written, is read: the program, the image or the record that is played again
+-- the path names a file that is read: the program, the image or the record that is played again
 abbrev pub is_read_by : Play → List ℕ → Bool
 is_read_by p path =
-    bytes_eq path p.program.now || (option_map_or (λ disk. bytes_eq path disk.now) p.disk false || option_map_or (λ played. bytes_eq path played.now) p.replay false)
+    is_same_path path p.program.now || (option_map_or (λ disk. is_same_path path disk.now) p.disk false || option_map_or (λ played. is_same_path path played.now) p.replay false)
 
 -- The path of the new record is one that is read, or that of a program.
 abbrev pub bad_record : Play → Option (Bor (List ℕ)) → Option (List ℕ)
@@ -78,7 +79,7 @@ most_steps = 18446744073709551615
 -- The image of the disk is claimed, if there is one; then the program is read. The first that is not read is the end.
 abbrev pub ReadsPlayed : Play → Folder → Folder → Result Inputs End → Type 0
 ReadsPlayed p old new (Ok inputs) = ClaimsDisk p.disk p.lock old new inputs.image.items (lines_in inputs) × IsRead old p.program.now inputs.program.items
-ReadsPlayed p old new (Err e) = IsDiskNotClaimed p.disk old new e
+ReadsPlayed p old new (Err e) = IsDiskNotClaimed p.disk p.lock old new e
     ⊎ ((mid : Folder) × (image : List ℕ) × (lines : Option (List ℕ)) × ClaimsDisk p.disk p.lock old mid image lines × IsNotRead mid new p.program.now e)
 
 -- A file with this text is refused: it is the record of no session; or memory ran out.

@@ -34,9 +34,9 @@ abbrev pub ClaimsDisk : Option (Bor (List ℕ)) → Bool → Folder → Folder �
 ClaimsDisk None wanted old new bytes lines = (new ≡ old) × (bytes ≡ []) × (lines ≡ None)
 ClaimsDisk (Some path) wanted old new bytes lines = (is_held : Bool) × HasClaimed old new path.now wanted is_held bytes × (lines ≡ warnings path.now (length bytes) (wanted && not is_held))
 
-abbrev pub IsDiskNotClaimed : Option (Bor (List ℕ)) → Folder → Folder → End → Type 0
-IsDiskNotClaimed None old new e = ⊥
-IsDiskNotClaimed (Some path) old new e = IsNotClaimed old new path.now e
+abbrev pub IsDiskNotClaimed : Option (Bor (List ℕ)) → Bool → Folder → Folder → End → Type 0
+IsDiskNotClaimed None wanted old new e = ⊥
+IsDiskNotClaimed (Some path) wanted old new e = IsNotClaimed old new path.now wanted e
 
 abbrev pub lines_in : Inputs → Option (List ℕ)
 lines_in inputs = option_map string_bytes inputs.warnings
@@ -46,7 +46,7 @@ lines_in inputs = option_map string_bytes inputs.warnings
 abbrev pub ReadsInputs : Run → Folder → Folder → Reader → Reader → Result Inputs End → Type 0
 ReadsInputs run old new before after (Ok inputs) = ClaimsDisk run.disk run.lock old new inputs.image.items (lines_in inputs)
     × IsRead old run.program.now inputs.program.items × IsReadIfGiven old run.telling.labels inputs.labels × IsReadIfGiven old run.telling.list inputs.list × ReadsInput before after (Ok inputs.typed)
-ReadsInputs run old new before after (Err e) = (IsDiskNotClaimed run.disk old new e × (after ≡ before))
+ReadsInputs run old new before after (Err e) = (IsDiskNotClaimed run.disk run.lock old new e × (after ≡ before))
     ⊎ ((mid : Folder) × (image : List ℕ) × (lines : Option (List ℕ)) × ClaimsDisk run.disk run.lock old mid image lines
     × ((IsNotRead mid new run.program.now e × (after ≡ before)) ⊎ ((program : List ℕ) × IsRead old run.program.now program
     × ((IsNotReadIfGiven mid new run.telling.labels e × (after ≡ before))

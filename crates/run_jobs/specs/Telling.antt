@@ -5,7 +5,7 @@ use Rattle.std.specs.Global.{Global}
 use Rattle.std.specs.List.{flat_map}
 use Rattle.std.specs.Option.{option_or}
 use Rattle.asm_macro.specs.Texts.{source_lines}
-use Rattle.std.specs.Str.{bytes_eq}
+use Rattle.z80dev_finish.specs.Paths.{is_same_path}
 use Rattle.cpm_run.specs.Records.{last_items}
 use Rattle.cpm_run.specs.declared.ending.Why.{Why}
 use Rattle.cpm_run.specs.declared.ending.Why.TheVariants as why
@@ -56,14 +56,14 @@ wish_of telling = record {
 
 -- ---- files that may not be written
 
--- the path is this one, if one is given
+-- the path names the same file as this one, if one is given
 abbrev pub is_given : List ℕ → Option (Bor (List ℕ)) → Bool
 is_given path None = false
-is_given path (Some other) = bytes_eq path other.now
+is_given path (Some other) = is_same_path path other.now
 
 -- the run reads a file of this path: its disk, its program, its labels or its listing
 abbrev pub reads_file : Run → List ℕ → Bool
-reads_file run path = is_given path run.disk || (bytes_eq path run.program.now || (is_given path run.telling.labels || is_given path run.telling.list))
+reads_file run path = is_given path run.disk || (is_same_path path run.program.now || (is_given path run.telling.labels || is_given path run.telling.list))
 
 -- the run writes no file of this path: it reads it, or it is that of a program
 abbrev pub is_kept : Run → List ℕ → Bool

@@ -17,7 +17,7 @@ use screen_codes::Codes;
 use std::alloc::{AllocError, Global};
 use streams::{Input, Sink};
 use z80dev_commands::Play;
-use z80dev_finish::{DONE, End, Files, report};
+use z80dev_finish::{DONE, End, Files, is_same_path, report};
 use z80dev_run::{
     Arrival, Desk, Keys, PlayEnd, PlayedRan, Ready, Recorded, Station, conclude, read_record,
     record_file,
@@ -73,14 +73,14 @@ fn bad_record(
         return Ok(None);
     };
     let is_image = match job.disk {
-        Some(disk) => path == disk,
+        Some(disk) => is_same_path(path, disk),
         None => false,
     };
     let is_replayed = match job.replay {
-        Some(replayed) => path == replayed,
+        Some(replayed) => is_same_path(path, replayed),
         None => false,
     };
-    if path == job.program || is_image || is_replayed || names_program(path) {
+    if is_same_path(path, job.program) || is_image || is_replayed || names_program(path) {
         return Ok(Some(format!(in alloc; "Overwrites({path})")?));
     }
     Ok(None)

@@ -14,7 +14,7 @@ use std::alloc::{AllocError, Global};
 use streams::Sink;
 use z80_cpu::Cpu;
 use z80dev_commands::{Run, Telling};
-use z80dev_finish::{End, Files};
+use z80dev_finish::{End, Files, is_same_path};
 use z80dev_run::{
     Labels, Left, Ran, Ready, Record, TRACE_STEPS, TracedRan, Why, Wish, coverage_file, is_lost,
     last_lines, machine_text, profile_file, trace_file,
@@ -79,12 +79,12 @@ fn wish_of(telling: Telling<'_>) -> Wish
     }
 }
 
-/// Whether a path is this one, if one is given.
+/// Whether a path names the same file as this one, if one is given.
 fn is_given(path: &str, other: Option<&str>) -> bool
     ensures { result ≡ is_given path.now other.entry }
 {
     match other {
-        Some(other) => path == other,
+        Some(other) => is_same_path(path, other),
         None => false,
     }
 }
@@ -94,7 +94,7 @@ fn reads_file(run: &Run<'_>, path: &str) -> bool
     ensures { result ≡ reads_file run.now path.now }
 {
     is_given(path, run.disk)
-        || path == run.program
+        || is_same_path(path, run.program)
         || is_given(path, run.telling.labels)
         || is_given(path, run.telling.list)
 }

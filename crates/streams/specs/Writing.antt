@@ -55,9 +55,9 @@ Puts old new bytes (Ok _) = PutsAll old new bytes
 Puts old new bytes (Err _) = PutsFront old new bytes
 
 -- what printing bytes does
-abbrev pub Prints : Stream → Stream → List ℕ → Result Unit WriteFailed → Type 0
-Prints old new bytes (Ok _) = PrintsAll old new bytes
-Prints old new bytes (Err _) = PutsFront old new bytes
+abbrev pub PrintsBytes : Stream → Stream → List ℕ → Result Unit WriteFailed → Type 0
+PrintsBytes old new bytes (Ok _) = PrintsAll old new bytes
+PrintsBytes old new bytes (Err _) = PutsFront old new bytes
 
 -- The bytes that a buffer holds back are written out; they already count as written.
 abbrev pub Hands_on : Stream → Stream → Result Unit WriteFailed → Type 0

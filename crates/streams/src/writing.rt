@@ -3,7 +3,7 @@
 ghost use Rattle.std.specs.Prelude.{◌<◌, length};
 ghost use Rattle.std.specs.List.{flat_map};
 ghost use Rattle.streams.specs.Private.Steps.{PutsSome};
-ghost use Rattle.streams.specs.Writing.{Hands_on, Prints, Puts, error_line};
+ghost use Rattle.streams.specs.Writing.{Hands_on, PrintsBytes, Puts, error_line};
 
 use crate::sink::{Sink, WriteFault};
 
@@ -74,7 +74,7 @@ pub fn put_all<S: Sink>(sink: &mut S, pieces: &[&[u8]]) -> Result<(), WriteFaile
 ///
 /// If the writer fails. Then only the first of the bytes may be written.
 pub fn print<S: Sink>(sink: &mut S, bytes: &[u8]) -> Result<(), WriteFailed>
-    ensures { Prints (S.stream sink.old) (S.stream sink.new) bytes.now result }
+    ensures { PrintsBytes (S.stream sink.old) (S.stream sink.new) bytes.now result }
 {
     put(sink, bytes)?;
     flush(sink)

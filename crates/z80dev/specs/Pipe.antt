@@ -2,7 +2,7 @@
 use Rattle.std.specs.Prelude.{◌≡◌, ℕ, ◌<◌, ◌⊎◌, List, length, Option, None, Some, Result, Ok, Err}
 use Rattle.common.specs.declared.limits.TheConstants.{LONGEST_TEXT}
 use Rattle.streams.specs.Stream.{Stream}
-use Rattle.streams.specs.Writing.{PutsAll, PutsFront}
+use Rattle.streams.specs.Writing.{PrintsAll, PutsFront}
 use Rattle.z80dev.specs.declared.fault.Fault.{Fault}
 use Rattle.z80dev.specs.declared.fault.Fault.TheVariants as fault
 use Rattle.z80dev.specs.FaultTexts.{fault_text}
@@ -30,6 +30,6 @@ IsFileFault text Cut old new = (((LONGEST_TEXT < length text) ⊎ Cut) × (new �
 
 -- How printing ends, given whether reading was cut short, and what was in the output before and is in it after.
 abbrev pub PrintingEnds : List ℕ → Type 0 → Stream → Stream → Result Unit Fault → Type 0
-PrintingEnds text Cut old new (Ok _) = WithFile text (PutsAll old new)
+PrintingEnds text Cut old new (Ok _) = WithFile text (PrintsAll old new)
 PrintingEnds text Cut old new (Err (fault.Build refusal)) = IsBuildRefused text refusal × (new ≡ old)
 PrintingEnds text Cut old new (Err fault.File) = IsFileFault text Cut old new

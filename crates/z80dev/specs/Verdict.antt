@@ -6,7 +6,7 @@ use Rattle.certificate.specs.Accepts.{Accepts}
 use Rattle.cert_check.specs.declared.fault.CheckFault.{CheckFault}
 use Rattle.cert_check.specs.Checks.{Checks}
 use Rattle.streams.specs.Stream.{Stream}
-use Rattle.streams.specs.Writing.{PutsAll, PutsFront}
+use Rattle.streams.specs.Writing.{PrintsAll, PutsFront}
 use Rattle.z80dev_finish.specs.declared.end.End.{End}
 use Rattle.z80dev_finish.specs.declared.end.End.TheVariants as end
 use Rattle.z80dev.specs.CheckTexts.{check_text}
@@ -27,7 +27,7 @@ IsRefusedBy sizes cert text = (fault : CheckFault) × Checks sizes cert (Err fau
 
 -- how printing a verdict ends
 abbrev pub VerdictEnds : List ℕ → List ℕ → Stream → Stream → End → Type 0
-VerdictEnds sizes cert old new end.Done = WithVerdict sizes cert (PutsAll old new)
+VerdictEnds sizes cert old new end.Done = WithVerdict sizes cert (PrintsAll old new)
 VerdictEnds sizes cert old new (end.Refused text) = IsRefusedBy sizes cert (string_bytes text) × (new ≡ old)
 VerdictEnds sizes cert old new end.Stream = WithVerdict sizes cert (PutsFront old new)
 VerdictEnds sizes cert old new end.NoMemory = new ≡ old

@@ -68,8 +68,9 @@ and repetitions; a line that makes bytes or a label is refused, as in
 
 A file that it writes replaces one of the same name without a warning, even one
 that is write-protected. But if a SRC or a FILE has the path of one of them,
-nothing is written, and there is a line `error: Overwrites(PATH)`. Paths are
-compared as they are written.
+nothing is written, and there is a line `error: Overwrites(PATH)`. So it is if
+one is written ./game.com and the other game.com, but not if one is a link to
+the other.
 
 A line such as `warning: game.asm(12): ..` tells of code that relies on the
 length of a jump that may be short or long. The files are written all the same,
@@ -207,7 +208,8 @@ pub(crate) const GET_FORMS: &str = r"z80dev get [OPTIONS] <IMG> <NAME> <FILE>
 pub(crate) const GET: &str =
     r"Reads IMG and writes the user's file NAME to FILE, in whole records of 128
 bytes. NAME is in upper case, as GAME.COM. If FILE exists, it is replaced
-without a warning. Prints nothing, and leaves IMG as it is.
+without a warning, unless it is IMG: then there is a line
+`error: Overwrites(FILE)`. Prints nothing, and leaves IMG as it is.
 
 NAME may have ? and * in it, as `z80dev dir --help` explains. Each file that
 matches is then written into the folder FILE under its own name. With --all,

@@ -1,8 +1,11 @@
 -- Files that are written one by one.
-use Rattle.std.proofs.Common.{◌≡◌, ◌+◌, ◌<◌, ℕ, List, [], ◌∷◌, ◌++◌, Option, None, Some, length, map, get_or, take, sym, ap, subst, ◌∙◌, inl, inr}
-use Rattle.std.proofs.lemmas.List.{append_assoc, append-nil, map-append, take_more}
+use Rattle.std.proofs.Common.{◌≡◌, ◌+◌, ◌<◌, ℕ, List, [], ◌∷◌, ◌++◌, Option, None, Some, length, map, get_or, take, sym, ap, subst, ◌∙◌, arith, inl, inr, string_bytes}
+use Rattle.std.proofs.lemmas.List.{append_assoc, append-nil, get_or-map, length-map, map-append, take_more}
 use Rattle.std.specs.Prelude.{◌⊎◌}
 use Rattle.z80dev_finish.specs.declared.answer.Kind.{Kind}
+use Rattle.z80dev_finish.specs.declared.ending.Output.{Output}
+use Rattle.z80dev_finish.specs.Answers.{file_of}
+use Rattle.z80dev_finish.specs.Private.Steps.{AreOutputs, with_path}
 use Rattle.z80dev_finish.specs.Files.{Adds, File, Folder, Grows}
 use Rattle.z80dev_finish.specs.Finishing.{named, path_of}
 
@@ -51,3 +54,30 @@ one_or_none base files k d old mid new lt so_far (inr this) = inr (one_more base
 pub this_file : (base : List ℕ) (files : List (Kind × List ℕ)) (k : ℕ) (d item : Kind × List ℕ) (path bytes : List ℕ) → item ≡ get_or files k d → path ≡ path_of base item.0 → bytes ≡ item.1
     → (path, bytes) ≡ named base (get_or files k d)
 this_file base files k d item path bytes at named_so filled = ap (λ p. (p, bytes)) named_so ∙ ap (λ b. (path_of base item.0, b)) filled ∙ ap (named base) at
+
+-- If two lists have the same elements under two functions, so have their elements of one number.
+pub same_at : {A B C : Type 0} (f : A → C) (g : B → C) (xs : List A) (ys : List B) (k : ℕ) (x : A) (y : B) → map f xs ≡ map g ys → k < length xs
+    → (k < length ys) × (f (get_or xs k x) ≡ g (get_or ys k y))
+same_at f g xs ys k x y same lt =
+    let there : k < length ys = omega (arith, lt, length-map xs f, length-map ys g, ap length same) in
+    (there, sym (get_or-map f xs k x (f x) lt) ∙ ap (λ zs. get_or zs k (f x)) same ∙ get_or-map g ys k y (f x) there)
+
+-- a file that is written is that of its number, under its path
+pub this_output : (base : List ℕ) (all : List (Kind × List ℕ)) (outputs : List Output) (k : ℕ) (output : Output) (path bytes : List ℕ) → AreOutputs base all outputs → k < length outputs
+    → output ≡ get_or outputs k output → path ≡ string_bytes output.path → bytes ≡ output.file.now.bytes.items
+    → (k < length all) × (file_of output.file.now ≡ get_or all k (file_of output.file.now)) × ((path, bytes) ≡ named base (get_or all k (file_of output.file.now)))
+this_output base all outputs k output path bytes are lt this is_path is_bytes =
+    let item = file_of output.file.now in
+    let found = same_at (λ (o : Output). (string_bytes o.path, file_of o.file.now)) (with_path base) outputs all k output item are lt in
+    let same : (string_bytes output.path, item) ≡ with_path base (get_or all k item) = ap (λ (o : Output). (string_bytes o.path, file_of o.file.now)) this ∙ found.1 in
+    let at : item ≡ get_or all k item = ap (λ p. p.1) same in
+    (found.0, at, this_file base all k item item path bytes at (is_path ∙ ap (λ p. p.0) same ∙ ap (λ (f : Kind × List ℕ). path_of base f.0) (sym at)) is_bytes)
+
+-- one file more with its path
+pub one_output : (base : List ℕ) (all : List (Kind × List ℕ)) (k : ℕ) (item : Kind × List ℕ) (outputs : List Output) (output : Output) → k < length all → AreOutputs base (take k all) outputs
+    → string_bytes output.path ≡ path_of base item.0 → file_of output.file.now ≡ item → item ≡ get_or all k item → AreOutputs base (take (k + 1) all) (outputs ++ output ∷ [])
+one_output base all k item outputs output lt so_far is_path is_item at =
+    let known : Output → List ℕ × (Kind × List ℕ) = λ o. (string_bytes o.path, file_of o.file.now) in
+    let one : known output ≡ with_path base (get_or all k item) = ap (λ p. (p, file_of output.file.now)) is_path ∙ ap (λ (f : Kind × List ℕ). (path_of base item.0, f)) is_item ∙ ap (with_path base) at in
+    map-append known outputs (output ∷ []) ∙ ap (λ xs. xs ++ known output ∷ []) so_far ∙ ap (λ x. map (with_path base) (take k all) ++ x ∷ []) one
+    ∙ sym (ap (map (with_path base)) (take_more all k item lt) ∙ map-append (with_path base) (take k all) (get_or all k item ∷ []))

@@ -1,7 +1,7 @@
 -- How a command ends that has an answer.
-use Rattle.std.specs.Prelude.{◌≡◌, ◌⊎◌, ℕ, ◌+◌, ◌<◌, IfSome, List, ◌++◌, Option, None, Some, length, map, slice_get, string_bytes, take}
+use Rattle.std.specs.Prelude.{◌≡◌, ◌⊎◌, ℕ, ◌+◌, IfSome, List, ◌++◌, Option, None, Some, map, slice_get, string_bytes, take}
 use Rattle.streams.specs.Stream.{Stream, counted}
-use Rattle.streams.specs.Writing.{PutsAll, PutsFront}
+use Rattle.streams.specs.Writing.{PrintsAll, PutsFront}
 use Rattle.z80dev_finish.specs.declared.answer.Answer as made
 use Rattle.z80dev_finish.specs.declared.answer.Kind.{Kind}
 use Rattle.z80dev_finish.specs.declared.end.End.{End}
@@ -25,23 +25,24 @@ abbrev pub IsUnwritten : List ℕ → List (Kind × List ℕ) → Folder → Fol
 IsUnwritten base files old new path last = (n : ℕ) × (file : Kind × List ℕ) × (slice_get files n ≡ Some file) × (path ≡ base) × (last ≡ ending file.0)
     × (Adds old new (map (named base) (take n files)) ⊎ Adds old new (map (named base) (take (n + 1) files))) × (new.failures ≡ counted old.failures)
 
--- Memory ran out for the path of one of the files: those before it are written.
-abbrev pub IsBrokenOff : List ℕ → List (Kind × List ℕ) → Folder → Folder → Type 0
-IsBrokenOff base files old new = (n : ℕ) × (n < length files) × Adds old new (map (named base) (take n files)) × (new.failures ≡ old.failures)
+-- The answer refuses nothing; or it refuses something, with this text if its text is known.
+abbrev pub IsWhy : {R : Type 0} → (R → Option (List ℕ)) → Option R → Option (List ℕ) → Type 0
+IsWhy text None None = Unit {0}
+IsWhy text (Some why) (Some said) = IfSome (text why) (λ known. said ≡ known)
+IsWhy text _ _ = ⊥
 
--- what is refused has this text, where its text is known
-abbrev pub IsWhy : {R : Type 0} → (R → Option (List ℕ)) → Option R → List ℕ → Type 0
-IsWhy text None said = ⊥
-IsWhy text (Some why) said = IfSome (text why) (λ known. said ≡ known)
+-- How a command ends that writes these files and prints these lines. The files are written in their order, then the lines are printed, then it
+-- is said what is refused, if something is. A file that cannot be written, or standard output that fails, is the end before that. If memory runs
+-- out, nothing is written or printed.
+abbrev pub WritesAndPrints : List ℕ → List (Kind × List ℕ) → List ℕ → (Option (List ℕ) → Type 0) → Folder → Folder → Stream → Stream → End → Type 0
+WritesAndPrints base files printed Says old new before after end.Done = AllWritten base files old new × PrintsAll before after printed × Says None
+WritesAndPrints base files printed Says old new before after (end.Refused said) =
+    AllWritten base files old new × PrintsAll before after printed × Says (Some (string_bytes said))
+WritesAndPrints base files printed Says old new before after (end.File path last) = IsUnwritten base files old new path.now last.now × (after ≡ before)
+WritesAndPrints base files printed Says old new before after (end.Path path) = ⊥
+WritesAndPrints base files printed Says old new before after end.Stream = AllWritten base files old new × PutsFront before after printed
+WritesAndPrints base files printed Says old new before after end.NoMemory = (new ≡ old) × (after ≡ before)
 
--- How a command ends whose answer this is: its files are written in their order, then its lines are printed, then what it refuses is the end. A
--- file that cannot be written, or a failure of the output, is the end before that.
+-- How a command ends whose answer this is.
 abbrev pub Finishes : {R : Type 0} → (R → Option (List ℕ)) → List ℕ → made.Answer R → Folder → Folder → Stream → Stream → End → Type 0
-Finishes text base a old new before after end.Done =
-    AllWritten base (map file_of a.files.items) old new × PutsAll before after a.printed.items × (a.refusal ≡ None)
-Finishes text base a old new before after (end.Refused said) =
-    AllWritten base (map file_of a.files.items) old new × PutsAll before after a.printed.items × IsWhy text a.refusal (string_bytes said)
-Finishes text base a old new before after (end.File path last) = IsUnwritten base (map file_of a.files.items) old new path.now last.now × (after ≡ before)
-Finishes text base a old new before after (end.Path path) = ⊥
-Finishes text base a old new before after end.Stream = AllWritten base (map file_of a.files.items) old new × PutsFront before after a.printed.items
-Finishes text base a old new before after end.NoMemory = ((new ≡ old) ⊎ IsBrokenOff base (map file_of a.files.items) old new) × (after ≡ before)
+Finishes text base a old new before after e = WritesAndPrints base (map file_of a.files.items) a.printed.items (IsWhy text a.refusal) old new before after e

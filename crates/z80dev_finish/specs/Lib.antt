@@ -2,4 +2,5 @@ pub mod Answers
 pub mod Files
 pub mod End
 pub mod Finishing
+pub mod Paths
 pub mod Private

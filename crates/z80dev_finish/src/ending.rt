@@ -1,9 +1,10 @@
 //! Doing what a command answers.
 
-ghost use Rattle.std.specs.Prelude.{◌≡◌, IfOk, map, string_bytes};
+ghost use Rattle.std.specs.Prelude.{◌≡◌, ℕ, List, IfOk, map, option_map, string_bytes};
 ghost use Rattle.z80dev_finish.specs.Answers.{file_of};
-ghost use Rattle.z80dev_finish.specs.Private.Steps.{IsText, Writes, end_of};
-ghost use Rattle.z80dev_finish.specs.Finishing.{Finishes, path_of};
+ghost use Rattle.z80dev_finish.specs.Private.Steps.{AreOutputs, Writes, end_of};
+ghost use Rattle.z80dev_finish.specs.Finishing.{Finishes, IsWhy, path_of};
+ghost use Rattle.z80dev_finish.specs.declared.answer.Kind.{Kind};
 
 use crate::answer::{Answer, Kind, NewFile};
 use crate::end::End;
@@ -11,6 +12,13 @@ use crate::files::Files;
 use std::alloc::{AllocError, Global};
 use std::fmt::Display;
 use streams::{Sink, print};
+
+/// A file of an answer, and the path under which it is written.
+#[derive(Drop)]
+struct Output<'a> {
+    path: String,
+    file: &'a NewFile,
+}
 
 /// The path of a file: the one that was given, and the file's ending.
 fn path_of(alloc: Global, base: &str, kind: Kind) -> Result<String, AllocError>
@@ -21,9 +29,25 @@ fn path_of(alloc: Global, base: &str, kind: Kind) -> Result<String, AllocError>
     Ok(path)
 }
 
+/// The files with their paths.
+fn outputs_of<'a>(
+    alloc: Global,
+    base: &str,
+    new: &'a [NewFile],
+) -> Result<Vec<Output<'a>>, AllocError>
+    ensures { IfOk result (λ outputs. AreOutputs base.now (map file_of new.now) outputs.items) }
+{
+    let mut outputs = Vec::with_capacity(alloc, new.len())?;
+    for file in new {
+        let path = path_of(alloc, base, file.kind)?;
+        outputs.push(Output { path, file })?;
+    }
+    Ok(outputs)
+}
+
 /// The text of a refusal.
 fn text_of<R: Display>(alloc: Global, refusal: &Option<R>) -> Result<Option<String>, AllocError>
-    ensures { IfOk result (IsText R.output refusal.now) }
+    ensures { IfOk result (λ said. IsWhy R.output refusal.now (option_map string_bytes said)) }
 {
     match refusal {
         Some(why) => Ok(Some(format!(in alloc; "{why}")?)),
@@ -33,19 +57,17 @@ fn text_of<R: Display>(alloc: Global, refusal: &Option<R>) -> Result<Option<Stri
 
 /// Writes files, each under its path.
 fn write_files<'a, F: Files>(
-    alloc: Global,
     base: &'a str,
-    new: &[NewFile],
+    outputs: &[Output<'_>],
     files: &mut F,
 ) -> Result<(), End<'a>>
-    ensures { Writes base.now (map file_of new.now) (F.folder files.old) (F.folder files.new) result }
+    ensures { (all : List (Kind × List ℕ)) → AreOutputs base.now all outputs.now → Writes base.now all (F.folder files.old) (F.folder files.new) result }
 {
-    for file in new {
-        let path = path_of(alloc, base, file.kind)?;
-        let Ok(()) = files.write(&path, &file.bytes) else {
+    for output in outputs {
+        let Ok(()) = files.write(&output.path, &output.file.bytes) else {
             return Err(End::File {
                 path: base,
-                ending: file.kind.ending(),
+                ending: output.file.kind.ending(),
             });
         };
     }
@@ -62,9 +84,10 @@ fn finish_all<'a, F: Files, W: Sink, R: Display>(
 ) -> Result<(), End<'a>>
     ensures { Finishes R.output base.now answer.now (F.folder files.old) (F.folder files.new) (W.stream output.old) (W.stream output.new) (end_of result) }
 {
-    // Made first: once a file is written, it is too late to run out of memory.
+    // All memory is taken before the first file is written, so that its want leaves no half of them.
     let refusal = text_of(alloc, &answer.refusal)?;
-    write_files(alloc, base, &answer.files, files)?;
+    let outputs = outputs_of(alloc, base, &answer.files)?;
+    write_files(base, &outputs, files)?;
     let Ok(()) = print(output, &answer.printed) else {
         return Err(End::Stream);
     };

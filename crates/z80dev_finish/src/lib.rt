@@ -9,8 +9,10 @@ mod answer;
 mod end;
 mod ending;
 mod files;
+mod paths;
 
 pub use answer::{Answer, Kind, NewFile};
 pub use end::{DONE, End, FILE_FAULT, REFUSED, USAGE, report};
 pub use ending::finish;
 pub use files::{Claimed, Files, Placed, Unread, replace};
+pub use paths::is_same_path;

@@ -42,14 +42,14 @@ usage texts k in_memory (inl kinds) taken =
     inl (is, λ t. in_memory (taken t (λ other counts. parsed_none k (fault_of z80dev texts) is counts.0)))
 usage texts k in_memory (inr counts) taken = inr counts
 
-pub refused : (words texts : List (List ℕ)) (k : ErrorKind) (old new : World) (status : ℕ) → AreTexts words texts → Untouched old new
+pub refused : (words texts : List (List ℕ)) (is_terminal : Bool) (k : ErrorKind) (old new : World) (status : ℕ) → AreTexts words texts → Untouched old new
     → ((k ≡ kind.OutOfMemory) ⊎ IsAmong k (fault_of z80dev texts)) ⊎ IsMiscounted texts k
-    → (takes z80dev texts ≡ true → HasRightCount texts → k ≡ kind.OutOfMemory) → RefusesError k old.output new.output old.errors new.errors status → CommandEnds words old new status
-refused words texts k old new status are same kinds taken (inl (inl shows)) =
+    → (takes z80dev texts ≡ true → HasRightCount texts → k ≡ kind.OutOfMemory) → RefusesError k old.output new.output old.errors new.errors status → CommandEnds words is_terminal old new status
+refused words texts is_terminal k old new status are same kinds taken (inl (inl shows)) =
     inr (same, inl (texts, k, are, usage texts k (asks k shows.0) kinds taken, inl shows))
-refused words texts k old new status are same kinds taken (inl (inr used)) =
+refused words texts is_terminal k old new status are same kinds taken (inl (inr used)) =
     inr (same, inl (texts, k, are, usage texts k used.1 kinds taken, inr used))
-refused words texts k old new status are same kinds taken (inr lacks) = inr (same, inr (inr lacks))
+refused words texts is_terminal k old new status are same kinds taken (inr lacks) = inr (same, inr (inr lacks))
 
 -- a job that the words ask for is about a user that has files
 has_disk_user : (met : Option (List ℕ × List Row)) (job : DiskJob) → IsDiskJobOf met job → HasUser job

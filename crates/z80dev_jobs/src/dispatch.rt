@@ -23,7 +23,7 @@ use disk_jobs::do_on_disk;
 use job_steps::{Ended, Host, refuse_value, report_any, report_line};
 use run_jobs::{debug_job, play_job, run_job};
 use std::alloc::Global;
-use streams::{print, put, tell};
+use streams::{print, put_all, tell};
 use z80dev::{DONE, End, Files, Input, Job, Sink, USAGE, commands, pipe, report};
 use z80dev_commands::Explain;
 
@@ -66,7 +66,9 @@ fn refuse_words<W: Sink, E: Sink>(
             }
         }
         _ => {
-            let _ = put(errors, text.as_bytes());
+            // clap begins these texts so too.
+            let why = text.strip_prefix("error: ").unwrap_or(&text);
+            let _ = put_all(errors, &[b"error: ", why.as_bytes()]);
             USAGE
         }
     }
@@ -81,7 +83,7 @@ fn explain_job<F: Files, W: Sink, E: Sink>(
     output: &mut W,
     errors: &mut E,
 ) -> u8
-    ensures { (input : Reader) → Judging (bad_in_explain job.now) (Reports (ExplainEnds job.now)) (world_of (F.folder files.old) input (W.stream output.old) (E.stream errors.old)) (world_of (F.folder files.new) input (W.stream output.new) (E.stream errors.new)) result }
+    ensures { (input : Reader) → Judging (bad_in_explain job.now) (Reports (ExplainEnds job.now is_terminal)) (world_of (F.folder files.old) input (W.stream output.old) (E.stream errors.old)) (world_of (F.folder files.new) input (W.stream output.new) (E.stream errors.new)) result }
 {
     if let Some(status) = refuse_value(bad_in_explain(alloc, job), errors) {
         return status;
@@ -102,7 +104,7 @@ fn work<F: Files, I: Input, W: Sink + Drop, E: Sink>(
     requires unread { I.reads host.input ≡ 0 }
     requires calm { I.interruptions host.input ≡ 0 }
     requires user { HasJobUser job }
-    ensures ends { JobEnds job.entry (world_of (F.folder host.files) (reader_of (I.remaining host.input) (I.failed host.input) (I.reads host.input) (I.interruptions host.input)) (W.stream host.output) (E.stream host.errors)) (world_of (F.folder result.host.files) (reader_of (I.remaining result.host.input) (I.failed result.host.input) (I.reads result.host.input) (I.interruptions result.host.input)) (W.stream result.host.output) (E.stream result.host.errors)) result.status }
+    ensures ends { JobEnds job.entry host.is_terminal (world_of (F.folder host.files) (reader_of (I.remaining host.input) (I.failed host.input) (I.reads host.input) (I.interruptions host.input)) (W.stream host.output) (E.stream host.errors)) (world_of (F.folder result.host.files) (reader_of (I.remaining result.host.input) (I.failed result.host.input) (I.reads result.host.input) (I.interruptions result.host.input)) (W.stream result.host.output) (E.stream result.host.errors)) result.status }
     ensures reads { I.reads result.host.input ≤ MOST_READS }
 {
     let status = match job {
@@ -182,7 +184,7 @@ pub fn command<F: Files, I: Input, W: Sink + Drop, E: Sink>(
     requires sound { I.failed host.input ≡ false }
     requires unread { I.reads host.input ≡ 0 }
     requires calm { I.interruptions host.input ≡ 0 }
-    ensures ends { CommandEnds (map (λ word. word.items) words.now) (world_of (F.folder host.files) (reader_of (I.remaining host.input) (I.failed host.input) (I.reads host.input) (I.interruptions host.input)) (W.stream host.output) (E.stream host.errors)) (world_of (F.folder result.host.files) (reader_of (I.remaining result.host.input) (I.failed result.host.input) (I.reads result.host.input) (I.interruptions result.host.input)) (W.stream result.host.output) (E.stream result.host.errors)) result.status }
+    ensures ends { CommandEnds (map (λ word. word.items) words.now) host.is_terminal (world_of (F.folder host.files) (reader_of (I.remaining host.input) (I.failed host.input) (I.reads host.input) (I.interruptions host.input)) (W.stream host.output) (E.stream host.errors)) (world_of (F.folder result.host.files) (reader_of (I.remaining result.host.input) (I.failed result.host.input) (I.reads result.host.input) (I.interruptions result.host.input)) (W.stream result.host.output) (E.stream result.host.errors)) result.status }
     ensures reads { I.reads result.host.input ≤ MOST_READS }
 {
     let texts = match texts_of(alloc, words) {

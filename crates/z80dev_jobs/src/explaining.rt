@@ -1,7 +1,7 @@
 //! The command `explain`.
 
 ghost use Rattle.std.specs.Prelude.{◌≡◌, length, map, option_map, string_bytes};
-ghost use Rattle.z80dev_jobs.specs.Explaining.{ExplainEnds, Explains, IsAsked, IsFormFor, PrintsWith};
+ghost use Rattle.z80dev_jobs.specs.Explaining.{ExplainEnds, Explains, PrintsWith, asked_of, form_for};
 ghost use Rattle.job_steps.specs.Ending.{effect_of, ended};
 
 use build_jobs::sources_of;
@@ -15,7 +15,7 @@ use z80dev_explain::{Asked, Explanation, Form, explain_sources};
 /// How an explanation is printed: as JSON if that is asked for; otherwise in colours if that is asked for, or if standard output is a
 /// terminal and nothing else is asked for.
 fn print_form(job: &Explain<'_>, is_terminal: bool) -> Form
-    ensures { IsFormFor job.now.json job.now.color result }
+    ensures { result ≡ form_for job.now.json job.now.color is_terminal }
 {
     if job.json {
         return Form::Json;
@@ -30,7 +30,7 @@ fn print_form(job: &Explain<'_>, is_terminal: bool) -> Form
 
 /// What is asked about sources.
 fn asked_of(job: &Explain<'_>, is_terminal: bool) -> Asked
-    ensures { IsAsked job.now result }
+    ensures { result ≡ asked_of job.now is_terminal }
 {
     Asked {
         grow: job.grow,
@@ -65,7 +65,7 @@ fn explain_texts<W: Sink>(
 ) -> Result<End<'static>, End<'static>>
     requires fronts { length job.now.shared.files.items ≡ length fronts.now }
     requires texts { length job.now.sources.items ≡ length texts.now }
-    ensures { Explains job.now (map (λ text. text.items) fronts.now) (map (λ text. text.items) texts.now) (W.stream output.old) (W.stream output.new) (ended result) }
+    ensures { Explains job.now is_terminal (map (λ text. text.items) fronts.now) (map (λ text. text.items) texts.now) (W.stream output.old) (W.stream output.new) (ended result) }
 {
     let shared_files = sources_of(alloc, &job.shared.files, fronts)?;
     let sources = sources_of(alloc, &job.sources, texts)?;
@@ -86,7 +86,7 @@ pub(crate) fn explain_files<'a, F: Files, W: Sink>(
     files: &mut F,
     output: &mut W,
 ) -> Result<End<'a>, End<'a>>
-    ensures { ExplainEnds job.now (effect_of (F.folder files.old) (F.folder files.new) (W.stream output.old) (W.stream output.new)) (ended result) }
+    ensures { ExplainEnds job.now is_terminal (effect_of (F.folder files.old) (F.folder files.new) (W.stream output.old) (W.stream output.new)) (ended result) }
 {
     let fronts = read_all(alloc, &job.shared.files, files)?;
     let texts = read_all(alloc, &job.sources, files)?;

@@ -10,7 +10,7 @@ use Rattle.claimed_images.specs.Claims.{image_lines}
 -- the image of the disk of a run is claimed, if there is one
 abbrev pub ClaimsDiskImage : Option (Bor (List ℕ)) → Bool → Folder → Folder → Result Image End → Type 0
 ClaimsDiskImage disk wanted old new (Ok image) = ClaimsDisk disk wanted old new image.bytes.items (image_lines image)
-ClaimsDiskImage disk wanted old new (Err e) = IsDiskNotClaimed disk old new e
+ClaimsDiskImage disk wanted old new (Err e) = IsDiskNotClaimed disk wanted old new e
 
 -- a file may be written beside the image of the disk of a run, if there is one
 abbrev pub IsFreeOf : Option (Bor (List ℕ)) → Folder → Type 0

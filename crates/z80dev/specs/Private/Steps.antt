@@ -5,7 +5,7 @@ use Rattle.certificate.specs.Accepts.{Accepts}
 use Rattle.cert_check.specs.declared.fault.CheckFault.{CheckFault}
 use Rattle.cert_check.specs.declared.fault.CheckFault.TheVariants as check
 use Rattle.streams.specs.Stream.{Stream}
-use Rattle.streams.specs.Writing.{PutsAll, PutsFront}
+use Rattle.streams.specs.Writing.{PrintsAll, PutsFront}
 use Rattle.zlink.specs.declared.fault.LinkFault.TheVariants as link
 use Rattle.zlink.specs.declared.fault.BuildFault.TheVariants as build
 use Rattle.z80dev_finish.specs.declared.end.End.{End}
@@ -19,7 +19,7 @@ use Rattle.z80dev.specs.Verdict.{IsRefusedBy}
 
 -- How writing a file ends: its line is written; or memory ran out and nothing is written; or the writer failed on it.
 abbrev pub Writes : List ℕ → Stream → Stream → Result Unit Fault → Type 0
-Writes file old new (Ok _) = PutsAll old new (file_line file)
+Writes file old new (Ok _) = PrintsAll old new (file_line file)
 Writes file old new (Err (fault.Build refusal)) = (refusal ≡ build.Link link.NoMemory) × (new ≡ old)
 Writes file old new (Err fault.File) = PutsFront old new (file_line file)
 

@@ -1,6 +1,6 @@
 use Rattle.std.proofs.Common.{◌≡◌, ◌∙◌, Err, Ok, inl, map, refl, subst}
 use Rattle.std.proofs.lemmas.Result.{err_from_is_err_and}
-use Rattle.streams.specs.Writing.{Puts}
+use Rattle.streams.specs.Writing.{PrintsBytes}
 use Rattle.disassembler.specs.Disassembly.{IsDisassembly}
 use Rattle.z80dev_finish.specs.declared.end.End.TheVariants as end
 use Rattle.build_jobs.specs.Making.{PrintsSource}
@@ -56,7 +56,7 @@ returns-in-Ok g c =
     let named = subst (λ names. IsDisassembly c.deref.result.now names words (Ok source)) c.as_deref.ensures.value c.in_ok-source.ensures in
     let read_so = subst (λ bytes. IsDisassembly bytes (bytes_in found) words (Ok source)) c.deref.ensures.value named in
     let is = subst (λ ws. IsDisassembly program (bytes_in found) (map (λ word. word.now) ws) (Ok source)) c.deref-2.ensures.value read_so in
-    let puts = subst (λ text. Puts x.before x.after text (Ok c.in-Ok.field-0)) c.deref-3.ensures.value (subst (Puts x.before x.after c.deref-3.result.now) c.in-Ok.is c.print.ensures.puts) in
+    let puts = subst (λ text. PrintsBytes x.before x.after text (Ok c.in-Ok.field-0)) c.deref-3.ensures.value (subst (PrintsBytes x.before x.after c.deref-3.result.now) c.in-Ok.is c.print.ensures) in
     inl (program, read.1, found_if_given c.args.dis.now.labels (λ names. (x.new ≡ x.old) × PrintsSource program names entries x end.Done) x mid new found end.Done read.0 c.in_ok-labels.ensures (same, (source, is, puts)))
 
 pub returns : goal.returns
@@ -74,5 +74,5 @@ returns g c =
     let named = subst (λ names. IsDisassembly c.deref.result.now names words (Ok source)) c.as_deref.ensures.value c.in_ok-source.ensures in
     let read_so = subst (λ bytes. IsDisassembly bytes (bytes_in found) words (Ok source)) c.deref.ensures.value named in
     let is = subst (λ ws. IsDisassembly program (bytes_in found) (map (λ word. word.now) ws) (Ok source)) c.deref-2.ensures.value read_so in
-    let puts = subst (λ text. Puts x.before x.after text (Err c.in-Err.field-0)) c.deref-3.ensures.value (subst (Puts x.before x.after c.deref-3.result.now) c.in-Err.is c.print.ensures.puts) in
+    let puts = subst (λ text. PrintsBytes x.before x.after text (Err c.in-Err.field-0)) c.deref-3.ensures.value (subst (PrintsBytes x.before x.after c.deref-3.result.now) c.in-Err.is c.print.ensures) in
     inl (program, read.1, found_if_given c.args.dis.now.labels (λ names. (x.new ≡ x.old) × PrintsSource program names entries x end.Stream) x mid new found end.Stream read.0 c.in_ok-labels.ensures (same, (source, is, puts)))

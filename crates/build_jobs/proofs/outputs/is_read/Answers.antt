@@ -1,17 +1,17 @@
 use Rattle.std.proofs.Common.{◌∙◌, ◌||◌, Bool, ap, sym}
 use Rattle.std.specs.List.{list_any}
-use Rattle.std.specs.Str.{bytes_eq}
+use Rattle.z80dev_finish.specs.Paths.{is_same_path}
 use Rattle.build_jobs.proofs.Overwritten.{among}
 use Rattle.build_jobs.proofs.outputs.is_read.Goals as goal
 
 pub returns-then-is_among : goal.returns-then-is_among
 returns-then-is_among c =
     let path = c.args.path.now in
-    let other = list_any (λ other. bytes_eq path other.now) c.args.sources.now in
+    let other = list_any (λ other. is_same_path path other.now) c.args.sources.now in
     c.if-is_among.true ∙ sym (ap (λ (b : Bool). b || other) (sym c.is_among.ensures ∙ c.if-is_among.true)) ∙ among path c.args.shared.now c.args.sources.now
 
 pub returns-else-is_among : goal.returns-else-is_among
 returns-else-is_among c =
     let path = c.args.path.now in
-    let other = list_any (λ other. bytes_eq path other.now) c.args.sources.now in
+    let other = list_any (λ other. is_same_path path other.now) c.args.sources.now in
     c.is_among-else-is_among.ensures ∙ sym (ap (λ (b : Bool). b || other) (sym c.is_among.ensures ∙ c.if-is_among.false)) ∙ among path c.args.shared.now c.args.sources.now

@@ -1,7 +1,8 @@
-use Rattle.std.proofs.Common.{map, take}
-use Rattle.z80dev_finish.specs.Answers.{file_of}
+use Rattle.std.proofs.Common.{take, List, ℕ}
+use Rattle.z80dev_finish.specs.declared.answer.Kind.{Kind}
+use Rattle.z80dev_finish.specs.Private.Steps.{AreOutputs}
 use Rattle.z80dev_finish.specs.Finishing.{AllWritten}
 use Rattle.z80dev_finish.proofs.ending.write_files.Given as goal
 
-abbrev pub invariant-loop-file : goal.invariant-loop-file
-invariant-loop-file g l = AllWritten l.base (take l.file-index (map file_of l.new)) (g.F.Files.folder l.fn.files) (g.F.Files.folder l.files)
+abbrev pub invariant-loop-output : goal.invariant-loop-output
+invariant-loop-output g l = (all : List (Kind × List ℕ)) → AreOutputs l.base all l.outputs → AllWritten l.base (take l.output-index all) (g.F.Files.folder l.fn.files) (g.F.Files.folder l.files)

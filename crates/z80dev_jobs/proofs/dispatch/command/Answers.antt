@@ -27,7 +27,7 @@ returns-clause-ends g c =
     let new = world_of files reader (g.W.Sink.stream c.refuse_words-status.new.output) (g.E.Sink.stream c.refuse_words-status.new.errors) in
     let why = c.in-Err-commands.ensures in
     let texts = map string_bytes c.in-Ok.texts.items in
-    refused words texts (kind_of c.in-Err-commands.error) old new c.refuse_words-status.result c.in-Ok.ensures (record { folder = refl; input = refl })
+    refused words texts c.args.host.is_terminal (kind_of c.in-Err-commands.error) old new c.refuse_words-status.result c.in-Ok.ensures (record { folder = refl; input = refl })
     (subst (λ ts. HasKind (fault_of z80dev (map string_bytes ts)) c.in-Err-commands.error ⊎ IsMiscounted (map string_bytes ts) (kind_of c.in-Err-commands.error)) c.deref.ensures.value why.refused)
     (subst (λ ts. takes z80dev (map string_bytes ts) ≡ true → HasRightCount (map string_bytes ts) → kind_of c.in-Err-commands.error ≡ kind.OutOfMemory) c.deref.ensures.value why.taken) c.refuse_words-status.ensures
 

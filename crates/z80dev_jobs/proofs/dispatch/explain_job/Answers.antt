@@ -19,5 +19,5 @@ returns g c = λ input.
     let told = g.E.Sink.stream c.report_any.new.errors in
     let e = ended c.explain_files.result in
     let judged = none_bad c.bad_in_explain.result (bad_in_explain c.args.job.now) errors mid (subst (JudgesBad c.bad_in_explain.result errors mid) c.in_default.is c.refuse_value.ensures) c.bad_in_explain.ensures in
-    goes_on (bad_in_explain c.args.job.now) (Reports (ExplainEnds c.args.job.now)) (world_of old input before errors) (world_of new input after told) c.report_any.result judged.0
+    goes_on (bad_in_explain c.args.job.now) (Reports (ExplainEnds c.args.job.now c.args.is_terminal)) (world_of old input before errors) (world_of new input after told) c.report_any.result judged.0
     (e, c.explain_files.ensures, c.report_any.ensures.status, subst (λ s. Tells e s told) judged.1 c.report_any.ensures.told, refl)

@@ -31,6 +31,6 @@ returns g c =
     c.deref.ensures.value refl c.deref-4.ensures.value c.in_ok-shared_files.ensures in
     let sources = are_files c.deref-2.result.now job.sources.items c.args.texts.now c.args.texts.now c.in_ok-sources.sources.items c.in_ok-sources.sources.items
     c.deref-2.ensures.value refl refl c.in_ok-sources.ensures in
-    let asked = c.asked_of-asked.result in
-    let is = subst (λ files. IsExplanation front asked files text summary) c.deref-5.ensures.value c.in_ok-explained.ensures in
-    inl (front, c.in_ok-sources.sources.items, asked, text, summary, (ap (map (λ word. word.now)) c.deref-3.ensures.value, are), sources, c.asked_of-asked.ensures, is, c.print_explanation.ensures)
+    let is = subst (λ files. IsExplanation front c.asked_of-asked.result files text summary) c.deref-5.ensures.value c.in_ok-explained.ensures in
+    let for_asked = subst (λ asked. IsExplanation front asked c.in_ok-sources.sources.items text summary) c.asked_of-asked.ensures is in
+    inl (front, c.in_ok-sources.sources.items, text, summary, (ap (map (λ word. word.now)) c.deref-3.ensures.value, are), sources, for_asked, c.print_explanation.ensures)
