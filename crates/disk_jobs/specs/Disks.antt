@@ -179,10 +179,13 @@ abbrev pub UnlessRead : Bool → List ℕ → Type 0 → Effect → End → Type
 UnlessRead true path Rest x e = Refuses (over_text path) x e
 UnlessRead false path Rest x e = Rest
 
+-- the file of a name, at a path
+abbrev pub GetsTo : List ℕ → List ℕ → ℕ → Bool → List ℕ → Effect → Option (List ℕ) → End → Type 0
+GetsTo name image user text path x wanted e = ReadsImage image (λ bytes. CarriesOut path (MemoryAside (IsGet bytes user name text)) x e) x wanted e
+
 -- `get`: the file of a name; or into a folder all that match, if the word has `?` or `*`
 abbrev pub GetsNamed : Option (List ℕ) → List ℕ → ℕ → Bool → List ℕ → List ℕ → Effect → Option (List ℕ) → End → Type 0
-GetsNamed (Some name) image user text word path x wanted e =
-    UnlessRead (is_same_path path image) path (ReadsImage image (λ bytes. CarriesOut path (MemoryAside (IsGet bytes user name text)) x e) x wanted e) x e
+GetsNamed (Some name) image user text word path x wanted e = UnlessRead (is_same_path path image) path (GetsTo name image user text path x wanted e) x e
 GetsNamed None image user text word path x wanted e = Named (pattern_of word) (λ pattern. GetsInto image user text pattern path x wanted e) x e
 
 abbrev pub GetEnds : Get → Effect → Option (List ℕ) → End → Type 0

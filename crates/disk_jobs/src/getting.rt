@@ -3,7 +3,7 @@
 ghost use Rattle.std.specs.Prelude.{◌≡◌, ◌<◌, IfOk, List, Some, length, map, ℕ, string_bytes};
 ghost use Rattle.cpm_directory.specs.declared.entry.TheConstants.{USERS};
 ghost use Rattle.streams.specs.Stream.{Stream};
-ghost use Rattle.disk_jobs.specs.Disks.{GetAllEnds, GetEnds, GetsInto, GetsMatching, GetsNamed, path_in};
+ghost use Rattle.disk_jobs.specs.Disks.{GetAllEnds, GetEnds, GetsInto, GetsMatching, GetsNamed, GetsTo, path_in};
 ghost use Rattle.job_steps.specs.Ending.{effect_of, EndsWith};
 ghost use Rattle.disk_jobs.specs.Private.Images.{WritesAll};
 ghost use Rattle.disk_jobs.specs.Private.Steps.{EndsWarned};
@@ -112,7 +112,27 @@ pub(crate) fn get_every<'a, F: Files>(
     get_into(alloc, image, user, text, &ALL, folder, files)
 }
 
-/// Gets the file of a name. It may not be written over the image.
+/// Gets the file of a name to a path.
+fn get_to<'a, F: Files, W: Sink>(
+    alloc: Global,
+    image: &'a str,
+    user: u8,
+    text: bool,
+    name: &Name,
+    path: &'a str,
+    files: &mut F,
+    output: &mut W,
+) -> Result<Option<String>, End<'a>>
+    requires user { user < USERS }
+    ensures { EndsWarned (GetsTo name.now image.now user text path.now (effect_of (F.folder files.old) (F.folder files.new) (W.stream output.old) (W.stream output.new))) result }
+{
+    let read = read_image(alloc, image, files)?;
+    let answer = get(alloc, &read.bytes, user, name, text);
+    let end = finish(alloc, path, &answer, files, output);
+    done_with(end, read.warnings)
+}
+
+/// Gets the file of a name to a path that is not that of the image.
 fn get_named<'a, F: Files, W: Sink>(
     alloc: Global,
     image: &'a str,
@@ -129,10 +149,7 @@ fn get_named<'a, F: Files, W: Sink>(
     if is_same_path(path, image) {
         return Err(End::Refused(format!(in alloc; "Overwrites({path})")?));
     }
-    let read = read_image(alloc, image, files)?;
-    let answer = get(alloc, &read.bytes, user, name, text);
-    let end = finish(alloc, path, &answer, files, output);
-    done_with(end, read.warnings)
+    get_to(alloc, image, user, text, name, path, files, output)
 }
 
 /// Gets a file of a disk; or into a folder all that match, if the word has `?` or `*`.
