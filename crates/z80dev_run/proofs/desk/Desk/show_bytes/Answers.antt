@@ -15,6 +15,6 @@ returns-after-print-2-clause-shows g c =
           let text = c.deref.ensures.value ∙ shown.text ∙ ap (λ before. before ++ screen_text c.self.inside.screen.codes c.self.inside.screen.pending c.args.bytes.now) c.clear.ensures.items in
           rw (w.result-is, ← c.self.view_is)
           (shows_bytes _ _ _ _ _ _ _ _ _ _ (same_false the_type _ _ (sym c.if-eq.ensures)) shown.codes shown.next
-          (subst (Appends (g.S.Sink.stream c.self.inside.output).bytes (g.S.Sink.stream c.print-in-Ok-show.new.sink).bytes) text w.in-Ok-print.ensures.puts.0))
-      | in-Err-print w ↦ rw (w.result-is, ← c.self.view_is) (refl, refl)
+          (subst (Appends (g.S.Sink.stream c.self.inside.output).bytes (g.S.Sink.stream c.print-in-Ok-show.new.sink).bytes) text w.in-Ok-print.ensures.0.0))
+      | in-Err-print w ↦ rw (w.result-is, ← c.self.view_is) (refl, refl, refl)
     ]
