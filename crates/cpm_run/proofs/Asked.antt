@@ -1,35 +1,136 @@
--- Which step takes a line.
-use Rattle.std.proofs.Common.{◌≡◌, ℕ, Bool, true, false, Option, None, Some, refl}
+-- Which steps wait for input, and what they lack.
+use Rattle.std.proofs.Common.{◌≡◌, ◌≢◌, ◌≤◌, ◌+◌, ◌∷◌, [], ℕ, Bool, true, false, List, Option, None, Some, Err, refl, sym, ap, subst, ◌∙◌}
 use Rattle.std.proofs.lemmas.Bool.{eqb-true}
-use Rattle.std.specs.Prelude.{◌==◌, ◌&&◌, if◌then◌else◌}
+use Rattle.std.specs.Prelude.{◌==◌, if◌then◌else◌}
 use Rattle.z80_cpu.specs.declared.registers.Cpu.{Cpu}
-use Rattle.cpm_run.specs.declared.asking.Need.{Need}
-use Rattle.cpm_run.specs.Play.{TakesLine}
-use Rattle.cpm_run.specs.Turns.{bdos, bios_entry}
-use Rattle.cpm_run.specs.Private.Asking.{need_of, need_of_entry, need_of_function}
+use Rattle.cpm_console.specs.Dialog.{Dialog}
+use Rattle.cpm_console.specs.Line.{Ending, NoInput, Stored, WarmBoot, typed_line}
+use Rattle.cpm_console.specs.Screen.{screen}
+use Rattle.cpm_fcb.specs.declared.stop.Stop.TheVariants as stop
+use Rattle.cpm_bdos.specs.Console.Texts.{taken_from}
+use Rattle.cpm_bdos.specs.Functions.{bios_entry_of, function_of}
+use Rattle.cpm_bdos.specs.declared.function.BiosEntry.{BiosEntry}
+use Rattle.cpm_bdos.specs.declared.function.BiosEntry.TheVariants as bios
+use Rattle.cpm_bdos.specs.declared.function.ConsoleCall.TheVariants as console
+use Rattle.cpm_bdos.specs.declared.function.Function.{Function}
+use Rattle.cpm_bdos.specs.declared.function.Function.TheVariants as function
+use Rattle.cpm_run.specs.Looks.{Attention, CallLacks, EntryLacks, LacksAt, LacksInput, MayStep, TakesLine, call_patience, entry_patience, last_after, line_room, patience_at, patience_of}
+use Rattle.cpm_run.specs.Turns.{Call, Entry, Place, Program, RunState, bdos, bios_entry, entry_or_program, place_at_pc}
+use Rattle.cpm_run.specs.declared.station.Patience.{Patience}
+use Rattle.cpm_run.specs.declared.station.Patience.TheVariants as how
 
--- no entry of the BIOS takes a line
-no_entry : (entry : Option ℕ) → need_of_entry entry ≡ Need.Line → ⊥
-no_entry None is = absurd cc
-no_entry (Some entry) is = by_number (entry == 2) (entry == 3) is where
-  by_number : (two three : Bool) → (if two then Need.Status else if three then Need.Byte else Need.Nothing) ≡ Need.Line → ⊥
-  by_number true three is = absurd cc
-  by_number false true is = absurd cc
-  by_number false false is = absurd cc
+-- ---- what lacks input waits
 
--- function 10 takes a line, and no other function does
-only_10 : (c e : ℕ) → need_of_function c e ≡ Need.Line → c ≡ 10
-only_10 c e is = by_number (c == 1) (c == 10) (c == 11) ((c == 6) && (e == 255)) (λ ten. eqb-true c 10 ten) is where
-  by_number : (one ten eleven six : Bool) → (ten ≡ true → c ≡ 10)
-      → (if one then Need.Byte else if ten then Need.Line else if eleven then Need.Status else if six then Need.Status else Need.Nothing) ≡ Need.Line → c ≡ 10
-  by_number true ten eleven six known is = absurd cc
-  by_number false true eleven six known is = known refl
-  by_number false false true six known is = absurd cc
-  by_number false false false true known is = absurd cc
-  by_number false false false false known is = absurd cc
+call_waits : {S : Type 0} (f : Option Function) (e : ℕ) (r : RunState S Dialog) → CallLacks f r → call_patience f e ≡ how.Wait
+call_waits None e r lacks = absurd lacks
+call_waits (Some function.SystemReset) e r lacks = absurd lacks
+call_waits (Some (function.Console console.Input)) e r lacks = refl
+call_waits (Some (function.Console console.Output)) e r lacks = absurd lacks
+call_waits (Some (function.Console console.Direct)) e r lacks = absurd lacks
+call_waits (Some (function.Console console.PrintString)) e r lacks = absurd lacks
+call_waits (Some (function.Console console.ReadLine)) e r lacks = refl
+call_waits (Some (function.Console console.Status)) e r lacks = absurd lacks
+call_waits (Some (function.Setting call)) e r lacks = absurd lacks
+call_waits (Some (function.Search call)) e r lacks = absurd lacks
+call_waits (Some (function.File call)) e r lacks = absurd lacks
+call_waits (Some (function.Record call)) e r lacks = absurd lacks
 
-pub takes_line : (cpu : Cpu) → need_of cpu ≡ Need.Line → TakesLine cpu
-takes_line cpu is = by_place (cpu.pc == bdos) (λ at. eqb-true cpu.pc bdos at) is where
-  by_place : (at : Bool) → (at ≡ true → cpu.pc ≡ bdos) → (if at then need_of_function cpu.main.c cpu.main.e else need_of_entry (bios_entry cpu.pc)) ≡ Need.Line → TakesLine cpu
-  by_place true known is = (known refl, only_10 cpu.main.c cpu.main.e is)
-  by_place false known is = absurd (no_entry (bios_entry cpu.pc) is)
+entry_waits : {S : Type 0} (entry : Option BiosEntry) (r : RunState S Dialog) → EntryLacks entry r → entry_patience entry ≡ how.Wait
+entry_waits None r lacks = absurd lacks
+entry_waits (Some bios.ConsoleStatus) r lacks = absurd lacks
+entry_waits (Some bios.ConsoleInput) r lacks = refl
+entry_waits (Some bios.ConsoleOutput) r lacks = absurd lacks
+
+waits_at : {S : Type 0} (place : Place) (r : RunState S Dialog) → LacksAt place r → patience_at place r.machine.cpu ≡ how.Wait
+waits_at Call r lacks = call_waits (function_of r.machine.cpu.main.c) r.machine.cpu.main.e r lacks
+waits_at (Entry n) r lacks = entry_waits (bios_entry_of n) r lacks
+waits_at Program r lacks = absurd lacks
+
+pub waits : {S : Type 0} (r : RunState S Dialog) → LacksInput r → patience_of r.machine.cpu ≡ how.Wait
+waits r lacks = waits_at (place_at_pc r.machine.cpu.pc) r lacks
+
+-- ---- a line
+
+takes_at : (cpu : Cpu) → TakesLine cpu → place_at_pc cpu.pc ≡ Call
+takes_at cpu takes = ap place_at_pc takes.0
+
+pub line_waits : (cpu : Cpu) → TakesLine cpu → patience_of cpu ≡ how.Wait
+line_waits cpu takes = ap (λ p. patience_at p cpu) (takes_at cpu takes) ∙ ap (λ f. call_patience f cpu.main.e) takes.1
+
+pub line_lacks : {S : Type 0} (r : RunState S Dialog) → TakesLine r.machine.cpu → (typed_line (line_room r) (screen (λ (d : Dialog). d) r.system.terminal)).ending ≡ NoInput → LacksInput r
+line_lacks r takes none =
+    subst (λ p. LacksAt p r) (sym (takes_at r.machine.cpu takes)) (subst (λ f. CallLacks f r) (sym takes.1) none)
+
+pub line_lacked : {S : Type 0} (r : RunState S Dialog) → TakesLine r.machine.cpu → LacksInput r → (typed_line (line_room r) (screen (λ (d : Dialog). d) r.system.terminal)).ending ≡ NoInput
+line_lacked r takes lacks =
+    subst (λ f. CallLacks f r) takes.1 (subst (λ p. LacksAt p r) (takes_at r.machine.cpu takes) lacks)
+
+-- a line that is not whole lacks its end
+pub not_whole : (ending : Ending) (whole : Bool) → (ending ≢ NoInput → whole ≡ true) → whole ≡ false → ending ≡ NoInput
+not_whole NoInput whole part is = refl
+not_whole WarmBoot whole part is = absurd (let no : false ≡ true = sym is ∙ part (λ e. cc) in cc)
+not_whole (Stored bytes) whole part is = absurd (let no : false ≡ true = sym is ∙ part (λ e. cc) in cc)
+
+-- ---- a byte
+
+none_taken : (column : ℕ) (input : List ℕ) → (taken_from column input).ending ≡ Err stop.EndOfInput → input ≡ []
+none_taken column [] is = refl
+none_taken column (byte ∷ input) is = absurd cc
+
+call_byte : {S : Type 0} (f : Option Function) (e : ℕ) (r : RunState S Dialog) → call_patience f e ≡ how.Wait → f ≢ Some (function.Console console.ReadLine)
+    → (r.system.terminal.console.input ≡ [] → CallLacks f r) × (CallLacks f r → r.system.terminal.console.input ≡ [])
+call_byte None e r is other = absurd cc
+call_byte (Some function.SystemReset) e r is other = absurd cc
+call_byte (Some (function.Console console.Input)) e r is other = (λ none. ap (λ l. (taken_from r.system.terminal.column l).ending) none, none_taken r.system.terminal.column r.system.terminal.console.input)
+call_byte (Some (function.Console console.Output)) e r is other = absurd cc
+call_byte (Some (function.Console console.Direct)) e r is other = absurd (by_byte (e == 255) is) where
+  by_byte : (all : Bool) → (if all then how.Poll else how.Glance) ≡ how.Wait → ⊥
+  by_byte true e = absurd cc
+  by_byte false e = absurd cc
+call_byte (Some (function.Console console.PrintString)) e r is other = absurd cc
+call_byte (Some (function.Console console.ReadLine)) e r is other = absurd (other refl)
+call_byte (Some (function.Console console.Status)) e r is other = absurd cc
+call_byte (Some (function.Setting call)) e r is other = absurd cc
+call_byte (Some (function.Search call)) e r is other = absurd cc
+call_byte (Some (function.File call)) e r is other = absurd cc
+call_byte (Some (function.Record call)) e r is other = absurd cc
+
+entry_byte : {S : Type 0} (entry : Option BiosEntry) (r : RunState S Dialog) → entry_patience entry ≡ how.Wait
+    → (r.system.terminal.console.input ≡ [] → EntryLacks entry r) × (EntryLacks entry r → r.system.terminal.console.input ≡ [])
+entry_byte None r is = absurd cc
+entry_byte (Some bios.ConsoleStatus) r is = absurd cc
+entry_byte (Some bios.ConsoleInput) r is = (λ none. none, λ none. none)
+entry_byte (Some bios.ConsoleOutput) r is = absurd cc
+
+entry_at : {S : Type 0} (entry : Option ℕ) (r : RunState S Dialog) → patience_at (entry_or_program entry) r.machine.cpu ≡ how.Wait
+    → (r.system.terminal.console.input ≡ [] → LacksAt (entry_or_program entry) r) × (LacksAt (entry_or_program entry) r → r.system.terminal.console.input ≡ [])
+entry_at None r is = absurd cc
+entry_at (Some n) r is = entry_byte (bios_entry_of n) r is
+
+-- A step that waits, and not for a line, lacks a byte exactly if there is none.
+pub byte_lacks : {S : Type 0} (r : RunState S Dialog) → patience_of r.machine.cpu ≡ how.Wait → ¬ TakesLine r.machine.cpu
+    → (r.system.terminal.console.input ≡ [] → LacksInput r) × (LacksInput r → r.system.terminal.console.input ≡ [])
+byte_lacks r is other = by_place (r.machine.cpu.pc == bdos) (λ at. eqb-true r.machine.cpu.pc bdos at) is where
+  by_place : (at : Bool) → (at ≡ true → r.machine.cpu.pc ≡ bdos) → patience_at (if at then Call else entry_or_program (bios_entry r.machine.cpu.pc)) r.machine.cpu ≡ how.Wait
+      → (r.system.terminal.console.input ≡ [] → LacksAt (if at then Call else entry_or_program (bios_entry r.machine.cpu.pc)) r)
+      × (LacksAt (if at then Call else entry_or_program (bios_entry r.machine.cpu.pc)) r → r.system.terminal.console.input ≡ [])
+  by_place true known here = call_byte (function_of r.machine.cpu.main.c) r.machine.cpu.main.e r here (λ f. other (known refl, f))
+  by_place false known here = entry_at (bios_entry r.machine.cpu.pc) r here
+
+-- ---- steps that may be made
+
+-- a step that waits for nothing
+pub may_step : {S : Type 0} (r : RunState S Dialog) (turns : ℕ) (a : Attention) → patience_of r.machine.cpu ≢ how.Wait → (patience_of r.machine.cpu ≡ how.Poll → a.here ≡ true) → turns ≤ a.last + 4000000 → MayStep r turns a
+may_step r turns a other polled soon = record { fed = λ lacks. absurd (other (waits r lacks)); polled = polled; soon = soon }
+
+-- a step that waits, and has its input
+pub may_take : {S : Type 0} (r : RunState S Dialog) (turns : ℕ) (a : Attention) → patience_of r.machine.cpu ≡ how.Wait → (LacksInput r → a.ended ≡ true) → turns ≤ a.last + 4000000 → MayStep r turns a
+may_take r turns a is fed soon = record { fed = fed; polled = λ e. absurd (let no : how.Wait ≡ how.Poll = sym is ∙ e in cc); soon = soon }
+
+pub last_waited : (patience : Patience) (turns last : ℕ) → patience ≡ how.Wait → last_after patience turns last ≡ turns
+last_waited patience turns last is = ap (λ p. last_after p turns last) is
+
+pub last_kept : (patience : Patience) (turns last : ℕ) → patience ≢ how.Wait → last_after patience turns last ≡ last
+last_kept how.Wait turns last other = absurd (other refl)
+last_kept how.Poll turns last other = refl
+last_kept how.Glance turns last other = refl

@@ -3,6 +3,8 @@ mod Recorded
 mod Walked
 mod Going
 mod Asked
+mod Lacking
+mod Looking
 mod Sitting
 mod Replayed
 pub mod OneRun

@@ -85,8 +85,8 @@ module _ {S : Type 0} (sectors : S → Image) (faults : S → ℕ) where
 -- nobody was asked, and all was shown
 pub shown_again : {S : Type 0} (end : PlayEnd) (before mid after : Seat) (new : PlayState S) (bytes : List ℕ) → IsUnasked before mid → IsUnasked mid after → new.run.system.terminal.console.output ≡ Some bytes
     → HasShown before after new.shown bytes → IsShownAgain end before after new
-shown_again end before mid after new bytes first then put seen = record { coming = then.coming ∙ first.coming; leaves = then.leaves ∙ first.leaves; all = λ _. (bytes, put, seen) }
+shown_again end before mid after new bytes first then put seen = record { coming = then.coming ∙ first.coming; leaves = then.leaves ∙ first.leaves; looks = then.looks ∙ first.looks; all = λ _. (bytes, put, seen) }
 
 -- nobody was asked, and the screen failed
 pub failed_again : {S : Type 0} (before mid after : Seat) (new : PlayState S) → IsUnasked before mid → IsUnasked mid after → IsShownAgain play.Failed before after new
-failed_again before mid after new first then = record { coming = then.coming ∙ first.coming; leaves = then.leaves ∙ first.leaves; all = λ other. absurd (other refl) }
+failed_again before mid after new first then = record { coming = then.coming ∙ first.coming; leaves = then.leaves ∙ first.leaves; looks = then.looks ∙ first.looks; all = λ other. absurd (other refl) }

@@ -110,7 +110,7 @@ left_by before mid after arrivals ended keys heard by =
     (keys, Consumes-trans before.coming mid.coming after.coming (arrival_bytes arrivals) keys heard.coming by.coming, sym (heard.leaves keys) ∙ by.leaves)
 
 pub unasked_on : (a b c : Seat) → IsUnasked a b → IsUnasked b c → IsUnasked a c
-unasked_on a b c first then = record { coming = then.coming ∙ first.coming; leaves = then.leaves ∙ first.leaves }
+unasked_on a b c first then = record { coming = then.coming ∙ first.coming; leaves = then.leaves ∙ first.leaves; looks = then.looks ∙ first.looks }
 
 -- the same bytes, and as many steps or more
 pub sooner : (n m : ℕ) (arrivals same : List Arrival) → n ≤ m → same ≡ arrivals → CameBefore n arrivals → CameBefore m same
@@ -283,7 +283,7 @@ module _ {S : Type 0} (sectors : S → Image) (faults : S → ℕ) where
       → q.ahead.items ≡ p.ahead.items → q.arrivals.items ≡ p.arrivals.items → q.ended ≡ p.ended → p.turns ≤ q.turns → SoFar sectors faults start before q after
   moved_on start before after p q first plays ahead arrivals ended later = record {
     stands = moved start before after p q first.stands plays ahead;
-    heard = heard_kept before after after _ _ _ _ (record { coming = refl; leaves = refl }) arrivals ended first.heard;
+    heard = heard_kept before after after _ _ _ _ (record { coming = refl; leaves = refl; looks = refl }) arrivals ended first.heard;
     time = sooner (p.turns + 1) (q.turns + 1) p.arrivals.items q.arrivals.items (omega (arith, later)) arrivals first.time;
   }
 
@@ -299,7 +299,7 @@ module _ {S : Type 0} (sectors : S → Image) (faults : S → ℕ) where
   pub over_here : (limit : ℕ) (end : Why) (start : PlayState S) (before after : Seat) (p q : Playing S) (first : SoFar sectors faults start before p after) → PlayedRunEnds sectors faults limit start end (state_of q first.stands.shown)
       → q.ahead.items ≡ p.ahead.items → q.arrivals.items ≡ p.arrivals.items → q.ended ≡ p.ended → CameBefore q.turns p.arrivals.items → Ends sectors faults limit (play.Run end) start before q after
   over_here limit end start before after p q first ends ahead arrivals ended time =
-      (over limit end start before after p q first.stands ends ahead, heard_kept before after after _ _ _ _ (record { coming = refl; leaves = refl }) arrivals ended first.heard, sooner q.turns q.turns p.arrivals.items q.arrivals.items (omega arith) arrivals time)
+      (over limit end start before after p q first.stands ends ahead, heard_kept before after after _ _ _ _ (record { coming = refl; leaves = refl; looks = refl }) arrivals ended first.heard, sooner q.turns q.turns p.arrivals.items q.arrivals.items (omega arith) arrivals time)
 
   -- all was shown, and no key came
   pub shown_on : (start : PlayState S) (before mid after : Seat) (p q : Playing S) → SoFar sectors faults start before p mid → Stands sectors faults start before q after → IsUnasked mid after

@@ -6,6 +6,7 @@ pub mod Seat
 pub mod Undisturbed
 pub mod Records
 pub mod Walks
+pub mod Looks
 pub mod Play
 pub mod AlikeSessions
 pub mod Private

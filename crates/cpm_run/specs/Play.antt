@@ -1,15 +1,14 @@
 -- A session at a keyboard: a run to which bytes come between its steps.
-use Rattle.std.specs.Prelude.{◌≡◌, ◌≢◌, ◌<◌, ◌≤◌, ◌+◌, ◌++◌, ◌⊎◌, ℕ, true, false, IfSome, List, [], Some, Ok, Err, map, slice_get, take}
+use Rattle.std.specs.Prelude.{◌≡◌, ◌≢◌, ◌<◌, ◌≤◌, ◌+◌, ◌++◌, ◌∷◌, ◌⊎◌, ℕ, Bool, true, false, IfSome, List, [], None, Some, Ok, Err, map, slice_get, take}
 use Rattle.std.specs.Io.{StartsWith}
 use Rattle.std.specs.Io.KnownBytes.{Consumes, IsAtEnd, Keeps}
-use Rattle.z80_cpu.specs.State.{de, machine}
+use Rattle.z80_cpu.specs.State.{machine}
 use Rattle.z80_cpu.specs.declared.registers.Cpu.{Cpu}
 use Rattle.cpm_console.specs.Dialog.{Dialog, output_cleared, dialog_of, put_by, typed_in}
 use Rattle.cpm_console.specs.Line.{typed_line}
 use Rattle.cpm_console.specs.Screen.{screen}
 use Rattle.cpm_disk.specs.Calls.{Mounted}
 use Rattle.cpm_disk.specs.Image.{Image}
-use Rattle.cpm_fcb.specs.Bytes.{memory_byte}
 use Rattle.cpm_fcb.specs.declared.stop.Stop.TheVariants as stop
 use Rattle.cpm_bdos.specs.System.{new_system, with_console}
 use Rattle.cpm_run.specs.declared.ending.Why.{Why}
@@ -18,10 +17,11 @@ use Rattle.cpm_run.specs.declared.fault.StartFault.{StartFault}
 use Rattle.cpm_run.specs.declared.arriving.Arrival.{Arrival}
 use Rattle.cpm_run.specs.declared.arriving.PlayEnd.{PlayEnd}
 use Rattle.cpm_run.specs.declared.arriving.PlayEnd.TheVariants as play
+use Rattle.cpm_run.specs.Looks.{Attention, MayLook, MayStep, TakesLine, after_look, after_step, line_room, patience_of, unlooked}
 use Rattle.cpm_run.specs.Run.{unstarted}
-use Rattle.cpm_run.specs.Seat.{Seat}
+use Rattle.cpm_run.specs.Seat.{Look, Seat, with_looks}
 use Rattle.cpm_run.specs.Start.{IsStart}
-use Rattle.cpm_run.specs.Turns.{Goes, IsTurn, RunState, bdos, is_finished}
+use Rattle.cpm_run.specs.Turns.{Goes, IsTurn, RunState, is_finished}
 
 -- A session so far: the state of the run, on a console in memory; the number of steps; each byte that came, with the number of steps before
 -- it; and what was shown.
@@ -74,6 +74,32 @@ PlayEnds sectors faults limit start (play.Run end) new = PlayedRunEnds sectors f
 PlayEnds sectors faults limit start play.Failed new = PlaysOn sectors faults start new ⊎ ((end : Why) × PlayedRunEnds sectors faults limit start end new)
 PlayEnds sectors faults limit start _ new = EndsBetween sectors faults limit start new
 
+-- How a session continues at a keyboard, with its looks: a look is made before a step, as that step asks for it, and bytes come with it, or none;
+-- a step is made, which does not end the run; or what the program has put is shown.
+pub data Attends {S : Type 0} (sectors : S → Image) (faults : S → ℕ) (start : PlayState S) : PlayState S → Attention → Type 0 where
+  begins : Attends sectors faults start start unlooked
+  a_look : (bytes : List ℕ) (ended : Bool) (s : PlayState S) (a : Attention) → Attends sectors faults start s a
+      → MayLook (patience_of s.run.machine.cpu) s.run s.turns a
+      → Attends sectors faults start (record s { run = on_console (typed_in bytes s.run.system.terminal.console) s.run; arrivals = s.arrivals ++ arrived s.turns bytes })
+      (after_look (patience_of s.run.machine.cpu) s.turns ended a)
+  a_step : (run : RunState S Dialog) (s : PlayState S) (a : Attention) → Attends sectors faults start s a
+      → is_finished s.run.machine.cpu.pc ≡ false → MayStep s.run s.turns a → IsTurn sectors faults (λ d. d) s.run None run
+      → Attends sectors faults start (record s { run = run; turns = s.turns + 1 }) (after_step (patience_of s.run.machine.cpu) s.turns a)
+  a_show : (bytes : List ℕ) (s : PlayState S) (a : Attention) → Attends sectors faults start s a → s.run.system.terminal.console.output ≡ Some bytes
+      → Attends sectors faults start (record s { run = on_console (output_cleared s.run.system.terminal.console) s.run; shown = s.shown ++ bytes }) a
+
+-- the looks of a session so far, and perhaps one more, as the next step asks for it
+abbrev pub AreLooks : {S : Type 0} → PlayState S → Attention → List Look → Type 0
+AreLooks s a looks =
+    (looks ≡ a.looks) ⊎ (MayLook (patience_of s.run.machine.cpu) s.run s.turns a × (looks ≡ a.looks ++ record { turns = s.turns; patience = patience_of s.run.machine.cpu } ∷ []))
+
+-- All looks of a session that has ended. The last one may have ended it: then no byte came. If a last step ended the run, it had been attended to.
+abbrev pub HasLooked : {S : Type 0} → (S → Image) → (S → ℕ) → PlayState S → PlayState S → List Look → Type 0
+HasLooked {S} sectors faults start new looks =
+    (s : PlayState S) × (a : Attention) × Attends sectors faults start s a × (new.arrivals ≡ s.arrivals)
+    × (((new.turns ≡ s.turns) × AreLooks s a looks)
+    ⊎ ((new.turns ≡ s.turns + 1) × MayStep s.run s.turns a × ((end : Why) × IsTurn sectors faults (λ d. d) s.run (Some end) new.run) × (looks ≡ a.looks)))
+
 -- the bytes of those that arrived
 abbrev pub arrival_bytes : List Arrival → List ℕ
 arrival_bytes arrivals = map (λ arrival. arrival.byte) arrivals
@@ -87,14 +113,6 @@ pub record Arrives (before : Seat) (arrivals : List Arrival) : Type 0 where
 abbrev pub ShowsAll : {S : Type 0} → Seat → Seat → PlayState S → List ℕ → Type 0
 ShowsAll before after new bytes = (more : List ℕ) → Keeps (before.screen (new.shown ++ bytes ++ more)) (after.screen more)
 
--- how many bytes the line may have that function 10 takes: the byte at DE
-abbrev pub line_room : {S C : Type 0} → RunState S C → ℕ
-line_room r = memory_byte (de r.machine.cpu.main) r.machine.memory
-
--- The next step is a call of function 10, which takes a line.
-abbrev pub TakesLine : Cpu → Type 0
-TakesLine cpu = (cpu.pc ≡ bdos) × (cpu.main.c ≡ 10)
-
 -- The echo of a line that is being typed, which is shown before function 10 puts it: what the function would put for the bytes that are
 -- there. It is empty unless the next step is a call of function 10.
 abbrev pub IsEcho : {S : Type 0} → RunState S Dialog → List ℕ → Type 0
@@ -105,7 +123,7 @@ IsEcho r echo = (echo ≡ []) ⊎ (TakesLine r.machine.cpu × (echo ≡ put_by (
 -- none was left.
 -- If the person left: it was by the keys that came, and the last of these did not arrive. All is shown that the program put, and then such an
 -- echo, which may be empty.
--- If memory ran out: all is shown that the program put, and then some bytes, of which nothing is said.
+-- If memory ran out: all is shown that the program put, and then some bytes. This does not say which bytes.
 -- If the keyboard or the screen failed: nothing more.
 abbrev pub Sees : {S : Type 0} → PlayEnd → Seat → Seat → PlayState S → Type 0
 Sees (play.Run end) before after new = Consumes before.coming after.coming (arrival_bytes new.arrivals) × (end ≡ why.Stopped stop.EndOfInput → IsAtEnd after.coming)
@@ -124,11 +142,13 @@ abbrev pub first_state : {S : Type 0} → Cpu → List ℕ → Mounted S → Pla
 first_state cpu memory disk = record { run = record { machine = machine cpu memory; system = new_system disk (dialog_of [] (Some []) 0) }; turns = 0; arrivals = []; shown = [] }
 
 -- A session with a program and its words, on a disk, of at most `limit` steps: how it ended, after how many steps and with which PC, the disk
--- then, and the bytes that came. None comes after the run has ended. If the program cannot be started, there is no step.
+-- then, and the bytes that came. None comes after the run has ended. These are all looks at the keyboard. If the program cannot be started, there is
+-- no step and no look.
 abbrev pub IsPlayed : {S : Type 0} → (S → Image) → (S → ℕ) → List ℕ → List (List ℕ) → Mounted S → ℕ → Seat → PlayEnd → ℕ → ℕ → Mounted S → List Arrival → Seat → Type 0
 IsPlayed {S} sectors faults file words disk limit before end turns pc left arrivals after =
     ((cpu : Cpu) × (memory : List ℕ) × (new : PlayState S) × IsStart file words (Ok (cpu, memory)) × PlayEnds sectors faults limit (first_state cpu memory disk) end new
-    × (turns ≡ new.turns) × (turns ≤ limit) × (pc ≡ new.run.machine.cpu.pc) × (left ≡ new.run.system.disk) × (arrivals ≡ new.arrivals) × Arrives before arrivals × Sees end before after new × ((reason : Why) → end ≡ play.Run reason → CameBefore turns arrivals))
+    × (turns ≡ new.turns) × (turns ≤ limit) × (pc ≡ new.run.machine.cpu.pc) × (left ≡ new.run.system.disk) × (arrivals ≡ new.arrivals) × Arrives before arrivals × Sees end before after new × ((reason : Why) → end ≡ play.Run reason → CameBefore turns arrivals)
+    × ((looks : List Look) × (after.looks ≡ with_looks looks before.looks) × HasLooked sectors faults (first_state cpu memory disk) new looks))
     ⊎ ((no : StartFault) × IsStart file words (Err no) × (end ≡ play.Run (unstarted no)) × (turns ≡ 0) × (pc ≡ 0x0100) × (left ≡ disk) × (arrivals ≡ []) × (after ≡ before))
 
 -- ---- the same session again
@@ -153,10 +173,11 @@ ReplayEnds sectors faults limit last start play.Left new = EndsBetween sectors f
 ReplayEnds sectors faults limit last start play.Failed new = PlaysOn sectors faults start new ⊎ ((end : Why) × PlayedRunEnds sectors faults limit start end new)
 ReplayEnds sectors faults limit last start play.NoMemory new = PlaysOn sectors faults start new
 
--- No key is taken. All is shown that the program put, unless the screen failed.
+-- The keyboard is not asked. All is shown that the program put, unless the screen failed.
 pub record IsShownAgain {S : Type 0} (end : PlayEnd) (before after : Seat) (new : PlayState S) : Type 0 where
   pub coming : after.coming ≡ before.coming
   pub leaves : after.leaves ≡ before.leaves
+  pub looks : after.looks ≡ before.looks
   pub all : end ≢ play.Failed → (bytes : List ℕ) × (new.run.system.terminal.console.output ≡ Some bytes) × ShowsAll before after new bytes
 
 -- A program is played again from a record. If the record is in order, the bytes came as it says; and all of them, if the session ended as if the

@@ -1,6 +1,6 @@
 //! Laws of runs, as functions that do nothing.
 
-ghost use Rattle.std.specs.Prelude.{◌≡◌, ℕ, List, [], Some};
+ghost use Rattle.std.specs.Prelude.{◌≡◌, ◌⊎◌, ℕ, List, [], Option, Some};
 ghost use Rattle.z80_cpu.specs.State.{machine};
 ghost use Rattle.z80_cpu.specs.declared.registers.Cpu.{Cpu};
 ghost use Rattle.cpm_console.specs.Dialog.{Dialog, dialog_of};
@@ -10,11 +10,14 @@ ghost use Rattle.cpm_bdos.specs.System.{new_system};
 ghost use Rattle.cpm_run.specs.declared.arriving.Arrival.{Arrival};
 ghost use Rattle.cpm_run.specs.declared.arriving.PlayEnd.{PlayEnd};
 ghost use Rattle.cpm_run.specs.declared.ending.Why.{Why};
+ghost use Rattle.cpm_fcb.specs.declared.stop.Stop.TheVariants as stop;
+ghost use Rattle.cpm_run.specs.declared.ending.Why.TheVariants as why;
 ghost use Rattle.cpm_run.specs.AlikeSessions.{AlikeSessions};
+ghost use Rattle.cpm_run.specs.Looks.{LacksInput};
 ghost use Rattle.cpm_run.specs.Play.{EndsBy, IsInOrder, IsPlayed, IsReplayed, PlayState, PlayedRunEnds, PlaysOn, arrived, first_state};
 ghost use Rattle.cpm_run.specs.Run.{IsRun, TurnsEnd};
 ghost use Rattle.cpm_run.specs.Seat.{Seat};
-ghost use Rattle.cpm_run.specs.Turns.{RunState};
+ghost use Rattle.cpm_run.specs.Turns.{IsTurn, RunState};
 ghost use Rattle.cpm_run.specs.Undisturbed.{EndsUndisturbed, IsUndisturbed};
 
 use cpm_console::Console;
@@ -76,3 +79,9 @@ pub fn replayed_alike<S: Sectors>()
 {
     z80_machine::laws::one_turn();
 }
+
+/// A step that lacks its input stops the run for want of it, unless the console fails.
+pub fn step_lacking_input<S: Sectors>()
+    ensures { (old new : RunState S Dialog) (end : Option Why) → LacksInput old → IsTurn S.sectors S.faults (λ d. d) old end new →
+        (end ≡ Some (why.Stopped stop.EndOfInput)) ⊎ (end ≡ Some (why.Stopped stop.ConsoleFault)) }
+{}

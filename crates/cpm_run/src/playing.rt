@@ -1,6 +1,6 @@
 //! Runs a program for somebody at a keyboard.
 
-ghost use Rattle.std.specs.Prelude.{◌≡◌, ◌≤◌, ◌<◌, ◌+◌, ◌-◌, [], List, OnOk, ℕ, map, true};
+ghost use Rattle.std.specs.Prelude.{◌≡◌, ◌≤◌, ◌<◌, [], List, OnOk, ℕ, map, true};
 ghost use Rattle.cpm_fcb.specs.declared.stop.Stop.TheVariants as stop;
 ghost use Rattle.cpm_run.specs.declared.arriving.PlayEnd.TheVariants as play;
 ghost use Rattle.cpm_run.specs.declared.ending.Why.{Why};
@@ -8,7 +8,7 @@ ghost use Rattle.cpm_run.specs.declared.ending.Why.TheVariants as why;
 ghost use Rattle.cpm_run.specs.Run.{unstarted};
 ghost use Rattle.cpm_run.specs.Play.{Arrives, CameBefore, IsPlayed, PlayState, PlayEnds, Sees};
 ghost use Rattle.cpm_run.specs.Seat.{Seat};
-ghost use Rattle.cpm_run.specs.Private.Playing.{Begins, Ends, EndsReady, GoesRound, OnlyShows, state_of};
+ghost use Rattle.cpm_run.specs.Private.Playing.{Begins, Ends, GoesRound, HasEnded, OnlyShows, Rests, RestsOn, state_of};
 
 pub(crate) mod state;
 mod waiting;
@@ -61,10 +61,8 @@ impl<S: Sectors> Playing<S> {
         requires looked { self.old.looked ≤ self.old.turns }
         ensures bound { self.new.turns ≤ limit }
         ensures looked { self.new.looked ≤ self.new.turns }
-        ensures most { self.new.turns ≤ self.old.turns + 2000001 }
-        ensures lately { OnOk result (self.new.turns - self.new.looked ≤ 2000000) }
         ensures further { OnOk result (self.old.turns < self.new.turns) }
-        ensures ready { OnOk result ((start : PlayState S) (before : Seat) → Begins S.sectors S.faults start before self.old (K.seat station.old) → EndsReady S.sectors S.faults start self.new) }
+        ensures looks { (start : PlayState S) (before : Seat) → Rests S.sectors S.faults start before self.old (K.seat station.old) → RestsOn S.sectors S.faults result start before self.new (K.seat station.new) }
         ensures so_far { (start : PlayState S) (before : Seat) → Begins S.sectors S.faults start before self.old (K.seat station.old) → GoesRound S.sectors S.faults limit result start before self.new (K.seat station.new) }
     {
         if let Some(why) = self.compute((limit - self.turns).min(SLICE)) {
@@ -79,7 +77,7 @@ impl<S: Sectors> Playing<S> {
         if let Err(end) = self.attend(alloc, station) {
             return Err(end);
         }
-        if let Some(why) = self.take_ready_turn() {
+        if let Some(why) = self.take_turn() {
             return Err(PlayEnd::Run(why));
         }
         match self.show_much(station) {
@@ -93,6 +91,7 @@ impl<S: Sectors> Playing<S> {
         requires bound { self.old.turns ≤ limit }
         requires looked { self.old.looked ≤ self.old.turns }
         ensures bound { self.new.turns ≤ limit }
+        ensures looks { (start : PlayState S) (before : Seat) → Rests S.sectors S.faults start before self.old (K.seat station.old) → HasEnded S.sectors S.faults start before self.new (K.seat station.new) }
         ensures so_far { (start : PlayState S) (before : Seat) → Begins S.sectors S.faults start before self.old (K.seat station.old) → Ends S.sectors S.faults limit result start before self.new (K.seat station.new) }
     {
         loop {
@@ -123,6 +122,7 @@ impl<S: Sectors> Playing<S> {
     /// Shows what was put last, if the run has ended. Answers how the session ended.
     fn close<K: Station>(&mut self, station: &mut K, end: PlayEnd) -> PlayEnd
         ensures others { OnlyShows self.old self.new }
+        ensures looks { (K.seat station.new).looks ≡ (K.seat station.old).looks }
         ensures ended { (limit : ℕ) (start : PlayState S) (before : Seat) → Ends S.sectors S.faults limit end start before self.old (K.seat station.old)
             → (shown : List ℕ) × PlayEnds S.sectors S.faults limit start result (state_of self.old shown) × Arrives before self.old.arrivals.items × Sees result before (K.seat station.new) (state_of self.old shown)
             × ((reason : Why) → result ≡ play.Run reason → CameBefore self.old.turns self.old.arrivals.items) }

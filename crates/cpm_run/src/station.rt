@@ -30,7 +30,7 @@ pub struct StationFault;
 
 /// A keyboard and a screen.
 pub trait Station {
-    /// What the screen has got and which keys will come, where that is known, and by which keys the person leaves.
+    /// What the screen has got, which keys will come, and which looks there were, where that is known; and by which keys the person leaves.
     ghost seat: { Self → Seat };
 
     /// Reads what comes into a buffer. The program has made `turns` steps.
@@ -44,7 +44,7 @@ pub trait Station {
         patience: Patience,
         buffer: &mut [u8],
     ) -> Result<Came, StationFault>
-        ensures { Listens (seat self.old) (seat self.new) result buffer.new };
+        ensures { Listens turns patience (seat self.old) (seat self.new) result buffer.new };
 
     /// Shows bytes.
     ///

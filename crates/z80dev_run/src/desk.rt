@@ -1,7 +1,7 @@
 //! Somebody at standard input and standard output.
 
 ghost use Rattle.std.specs.Prelude.{◌≡◌, ◌<◌, ◌≤◌, ◌≢◌, ◌++◌, ℕ, List, EachIndex, Ok, false, if◌then◌else◌, length, slice_index, true};
-ghost use Rattle.cpm_run.specs.Seat.{Listens, TriesToShow};
+ghost use Rattle.cpm_run.specs.Seat.{Hears, TriesToShow};
 ghost use Rattle.cpm_run.specs.declared.station.Came.TheVariants as came;
 ghost use Rattle.screen_codes.specs.declared.codes.Pending.TheVariants.{Nothing};
 ghost use Rattle.z80dev_run.specs.Desk.{as_keys, desk_seat, has_left, leaves_by, line_key};
@@ -174,7 +174,7 @@ impl<I: Input, S: Sink> Desk<I, S> {
     fn look(&mut self, turns: u64, buffer: &mut [u8]) -> Result<Came, StationFault>
         requires room { 0 < length buffer.old }
         ensures raw { self.old.keys ≡ keys.Raw → result ≢ Ok came.End }
-        ensures listens { Listens (desk_seat self.old (I.remaining self.old.input) (S.stream self.old.output).bytes) (desk_seat self.new (I.remaining self.new.input) (S.stream self.new.output).bytes) result buffer.new }
+        ensures hears { Hears (desk_seat self.old (I.remaining self.old.input) (S.stream self.old.output).bytes) (desk_seat self.new (I.remaining self.new.input) (S.stream self.new.output).bytes) result buffer.new }
         ensures reads { HasRead result (I.reads self.old.input) (I.reads self.new.input) }
         ensures rhythm { self.new.rhythm ≡ after_look turns result }
     {
@@ -213,7 +213,7 @@ impl<I: Input, S: Sink> Desk<I, S> {
         patience: Patience,
         buffer: &mut [u8],
     ) -> Result<Came, StationFault>
-        ensures listens { Listens (desk_seat self.old (I.remaining self.old.input) (S.stream self.old.output).bytes) (desk_seat self.new (I.remaining self.new.input) (S.stream self.new.output).bytes) result buffer.new }
+        ensures hears { Hears (desk_seat self.old (I.remaining self.old.input) (S.stream self.old.output).bytes) (desk_seat self.new (I.remaining self.new.input) (S.stream self.new.output).bytes) result buffer.new }
         ensures no_room { length buffer.old ≡ 0 → (result ≡ Ok (came.Bytes 0)) × (self.new ≡ self.old) }
         ensures not_due { 0 < length buffer.old → is_due self.old.keys self.old.rhythm turns patience ≡ false
             → (result ≡ Ok (came.Bytes 0)) × (self.new ≡ record self.old { rhythm = after_asking self.old.keys self.old.rhythm turns patience }) }

@@ -2,17 +2,17 @@
 use Rattle.std.specs.Prelude.{◌≡◌, ◌<◌, ◌≤◌, ◌+◌, ◌++◌, ℕ, Bool, true, false, List, [], Option, None, Some, Result, Ok, Err}
 use Rattle.std.specs.Io.KnownBytes.{Consumes, IsAtEnd, Keeps}
 use Rattle.z80_cpu.specs.State.{machine}
-use Rattle.cpm_console.specs.Dialog.{Dialog}
 use Rattle.cpm_disk.specs.Image.{Image}
 use Rattle.cpm_run.specs.declared.ending.Why.{Why}
 use Rattle.cpm_run.specs.declared.arriving.PlayEnd.{PlayEnd}
 use Rattle.cpm_run.specs.declared.arriving.PlayEnd.TheVariants as play
 use Rattle.cpm_run.specs.declared.playing.state.Playing.{Playing}
-use Rattle.cpm_run.specs.Play.{Arrives, CameBefore, EndsBy, IsEcho, PlayState, PlaysOn, PlayedRunEnds, arrived, arrival_bytes}
+use Rattle.cpm_run.specs.Looks.{Attention, MayStep, after_look, last_after, patience_of}
+use Rattle.cpm_run.specs.Play.{Arrives, Attends, CameBefore, EndsBy, HasLooked, IsEcho, PlayState, PlaysOn, PlayedRunEnds, arrived, arrival_bytes}
 use Rattle.cpm_run.specs.declared.arriving.Arrival.{Arrival}
-use Rattle.cpm_run.specs.Seat.{Seat}
-use Rattle.cpm_run.specs.Turns.{IsTurn, RunState, is_finished}
-use Rattle.cpm_run.specs.Private.Asking.{IsReady, need_of}
+use Rattle.cpm_run.specs.Seat.{Look, Seat, with_looks}
+use Rattle.cpm_run.specs.Turns.{is_finished}
+use Rattle.cpm_run.specs.declared.station.Patience.{Patience}
 
 -- the session, given what was shown
 abbrev pub state_of : {S : Type 0} → Playing S → List ℕ → PlayState S
@@ -43,6 +43,7 @@ IsLeftBy before after arrivals = (last : List ℕ) × Consumes before.coming aft
 pub record IsUnasked (old new : Seat) : Type 0 where
   pub coming : new.coming ≡ old.coming
   pub leaves : new.leaves ≡ old.leaves
+  pub looks : new.looks ≡ old.looks
 
 -- The session so far: the screen has what was shown, and the bytes that were shown ahead.
 pub record Stands {S : Type 0} (sectors : S → Image) (faults : S → ℕ) (start : PlayState S) (before : Seat) (p : Playing S) (after : Seat) : Type 0 where
@@ -110,18 +111,6 @@ abbrev pub Continues : {A : Type 0} {S : Type 0} → (S → Image) → (S → �
 Continues sectors faults limit (Ok done) start before p after = SoFar sectors faults start before p after
 Continues sectors faults limit (Err end) start before p after = Ends sectors faults limit end start before p after
 
--- The last step found what it needs, unless the keyboard had said that no key would come. No byte came after that step; what was shown then is
--- not said.
-pub record EndsReady {S : Type 0} (sectors : S → Image) (faults : S → ℕ) (start : PlayState S) (p : Playing S) : Type 0 where
-  pub last : PlayState S
-  pub next : RunState S Dialog
-  pub plays : PlaysOn sectors faults start last
-  pub ready : IsReady (need_of last.run.machine.cpu) last.run p.ended
-  pub turn : IsTurn sectors faults (λ d. d) last.run None next
-  pub cpu : p.cpu ≡ next.machine.cpu
-  pub count : p.turns ≡ last.turns + 1
-  pub arrivals : p.arrivals.items ≡ last.arrivals
-
 -- the session between two steps, before the keyboard is asked
 abbrev pub Begins : {S : Type 0} → (S → Image) → (S → ℕ) → PlayState S → Seat → Playing S → Seat → Type 0
 Begins sectors faults start before p after = SoFar sectors faults start before p after × CameBefore p.turns p.arrivals.items
@@ -160,6 +149,63 @@ pub record OnlyShows {S : Type 0} (old new : Playing S) : Type 0 where
   pub ended : new.ended ≡ old.ended
   pub disk : new.bdos.disk ≡ old.bdos.disk
   pub arrivals : new.arrivals.items ≡ old.arrivals.items
+
+-- ---- the looks at the keyboard
+
+-- The session so far has made these looks.
+pub record Watched {S : Type 0} (sectors : S → Image) (faults : S → ℕ) (start : PlayState S) (before : Seat) (p : Playing S) (after : Seat) (a : Attention) : Type 0 where
+  pub shown : List ℕ
+  pub attends : Attends sectors faults start (state_of p shown) a
+  pub looks : after.looks ≡ with_looks a.looks before.looks
+  pub ended : a.ended ≡ p.ended
+
+-- a call that asks nobody and makes no step
+abbrev pub StaysWatched : {S : Type 0} → (S → Image) → (S → ℕ) → Playing S → Playing S → Seat → Seat → Type 0
+StaysWatched {S} sectors faults p q mid after = (start : PlayState S) (before : Seat) (a : Attention) → Watched sectors faults start before p mid a → Watched sectors faults start before q after a
+
+-- the session after a call that ended it, with all its looks
+abbrev pub HasEnded : {S : Type 0} → (S → Image) → (S → ℕ) → PlayState S → Seat → Playing S → Seat → Type 0
+HasEnded sectors faults start before p after = (looks : List Look) × (after.looks ≡ with_looks looks before.looks) × HasLooked sectors faults start (state_of p []) looks
+
+-- what steps did to a session that looks at the keyboard
+abbrev pub StepsTo : {S : Type 0} → (S → Image) → (S → ℕ) → Option Why → PlayState S → PlayState S → Attention → Type 0
+StepsTo sectors faults None start new a = Attends sectors faults start new a
+StepsTo sectors faults (Some end) start new a = HasLooked sectors faults start new a.looks
+
+-- the session after a look that may have ended it
+abbrev pub AfterLook : {A : Type 0} {S : Type 0} → (S → Image) → (S → ℕ) → Result A PlayEnd → Patience → Attention → PlayState S → Seat → Playing S → Seat → Type 0
+AfterLook sectors faults (Ok done) patience a start before p after = Watched sectors faults start before p after (after_look patience p.turns p.ended a)
+AfterLook sectors faults (Err end) patience a start before p after = HasEnded sectors faults start before p after
+
+-- The next step may be made.
+pub record IsAttended {S : Type 0} (sectors : S → Image) (faults : S → ℕ) (start : PlayState S) (before : Seat) (p : Playing S) (after : Seat) : Type 0 where
+  pub so_far : Attention
+  pub watched : Watched sectors faults start before p after so_far
+  pub may : MayStep (state_of p []).run p.turns so_far
+
+-- the session before a step, unless it has ended
+abbrev pub Attended : {A : Type 0} {S : Type 0} → (S → Image) → (S → ℕ) → Result A PlayEnd → PlayState S → Seat → Playing S → Seat → Type 0
+Attended sectors faults (Ok done) start before p after = (ready : IsAttended sectors faults start before p after) × (last_after (patience_of p.cpu) p.turns ready.so_far.last ≡ p.turns)
+Attended sectors faults (Err end) start before p after = HasEnded sectors faults start before p after
+
+-- the same, when it is noted
+abbrev pub Fit : {A : Type 0} {S : Type 0} → (S → Image) → (S → ℕ) → Result A PlayEnd → PlayState S → Seat → Playing S → Seat → Type 0
+Fit sectors faults (Ok done) start before p after = (ready : IsAttended sectors faults start before p after) × (last_after (patience_of p.cpu) p.turns ready.so_far.last ≡ p.looked)
+Fit sectors faults (Err end) start before p after = HasEnded sectors faults start before p after
+
+-- The session between two steps. It has not looked since the last one.
+pub record Rests {S : Type 0} (sectors : S → Image) (faults : S → ℕ) (start : PlayState S) (before : Seat) (p : Playing S) (after : Seat) : Type 0 where
+  pub so_far : Attention
+  pub watched : Watched sectors faults start before p after so_far
+  pub here : so_far.here ≡ false
+  pub last : so_far.last ≡ p.looked
+  pub lately : p.turns ≤ p.looked + 2000000
+
+abbrev pub RestsOn : {A : Type 0} {S : Type 0} → (S → Image) → (S → ℕ) → Result A PlayEnd → PlayState S → Seat → Playing S → Seat → Type 0
+RestsOn sectors faults (Ok done) start before p after = Rests sectors faults start before p after
+RestsOn sectors faults (Err end) start before p after = HasEnded sectors faults start before p after
+
+-- ---- played again
 
 -- The session when it is played again, after a call that may end it: with the run, or since the screen failed.
 abbrev pub Repeats : {A : Type 0} {S : Type 0} → (S → Image) → (S → ℕ) → ℕ → Result A PlayEnd → PlayState S → Seat → Playing S → Seat → Type 0

@@ -1,17 +1,17 @@
 //! What a session does before a step that asks for input.
 
-ghost use Rattle.std.specs.Prelude.{◌≡◌, ◌≢◌, ◌<◌, ◌≤◌, ◌-◌, [], IfOk, List, OnOk, Option, true, ℕ};
+ghost use Rattle.std.specs.Prelude.{◌≡◌, ◌≢◌, ◌<◌, ◌≤◌, ◌+◌, ◌-◌, [], IfOk, List, OnOk, Option, false, true, ℕ};
 ghost use Rattle.cpm_console.specs.Dialog.{dialog_of, put_by};
 ghost use Rattle.cpm_console.specs.Line.{NoInput, line_transcript, typed_line};
 ghost use Rattle.cpm_console.specs.Screen.{screen};
-ghost use Rattle.cpm_run.specs.Play.{IsEcho, PlayState, TakesLine, line_room};
+ghost use Rattle.cpm_run.specs.Looks.{Attention, TakesLine, line_room, patience_of};
+ghost use Rattle.cpm_run.specs.Play.{IsEcho, PlayState};
 ghost use Rattle.cpm_run.specs.Seat.{Seat};
-ghost use Rattle.cpm_run.specs.Private.Asking.{IsReady, need_of, patience_for};
-ghost use Rattle.cpm_run.specs.declared.asking.Need.TheVariants as need;
-ghost use Rattle.cpm_run.specs.Private.Playing.{Continues, IsBetween, IsStill, SoFar, Waits, WaitsOn, state_of};
+ghost use Rattle.cpm_run.specs.declared.station.Patience.TheVariants as how;
+ghost use Rattle.cpm_run.specs.Private.Playing.{Attended, Continues, Fit, IsBetween, IsStill, SoFar, StaysWatched, Waits, WaitsOn, Watched, state_of};
 
 use crate::arriving::PlayEnd;
-use crate::asking::{Need, needed};
+use crate::asking::{patience_of, takes_line};
 use crate::playing::state::{Playing, behind};
 use crate::station::{Patience, Station};
 use cpm_console::{ConsoleError, MemoryConsole, Terminal};
@@ -30,17 +30,6 @@ const LONGEST_UNSEEN: u64 = 2_000_000;
 struct Echo {
     bytes: Vec<u8>,
     is_whole: bool,
-}
-
-/// How the keyboard is asked if the next step can be made at once.
-fn patience_for(need: Need) -> Patience
-    ensures { result ≡ patience_for need }
-{
-    if need == Need::Nothing {
-        Patience::Glance
-    } else {
-        Patience::Poll
-    }
 }
 
 /// What function 10 puts for these bytes.
@@ -67,18 +56,31 @@ fn echo_of(alloc: Global, typed: &[u8], column: u16, room: u8) -> Result<Echo, A
 }
 
 impl<S: Sectors> Playing<S> {
+    /// Whether a byte is there, or no byte will come.
+    fn has_byte(&self) -> bool
+        ensures yes { result ≡ true → self.now.bdos.terminal.console.input ≡ [] → self.now.ended ≡ true }
+        ensures open { result ≡ false → self.now.ended ≡ false }
+        ensures none { result ≡ false → self.now.bdos.terminal.console.input ≡ [] }
+    {
+        self.ended || !self.bdos.console().typed().is_empty()
+    }
+
     /// Waits until a byte is there, or no byte will come.
     fn await_byte<K: Station>(&mut self, alloc: Global, station: &mut K) -> Result<(), PlayEnd>
+        requires byte { patience_of self.old.cpu ≡ how.Wait }
+        requires other { ¬ TakesLine self.old.cpu }
         ensures still { IsStill self.old self.new }
-        ensures ready { OnOk result (IsReady need.Byte (state_of self.new []).run self.new.ended) }
+        ensures looks { (start : PlayState S) (before : Seat) (a : Attention) → Watched S.sectors S.faults start before self.old (K.seat station.old) a → self.old.turns ≤ a.last + 4000000 → Attended S.sectors S.faults result start before self.new (K.seat station.new) }
         ensures waits { (limit : ℕ) (start : PlayState S) (before : Seat) → Waits S.sectors S.faults limit start before self.old (K.seat station.old) → self.old.ahead.items ≡ []
             → WaitsOn S.sectors S.faults limit result start before self.new (K.seat station.new) }
     {
         for _ in 0..MOST_WAITS {
-            if self.ended || !self.bdos.console().typed().is_empty() {
+            if self.has_byte() {
                 return Ok(());
             }
-            self.listen(alloc, station, Patience::Wait)?;
+            if let Err(end) = self.listen(alloc, station, Patience::Wait) {
+                return Err(end);
+            }
         }
         Err(PlayEnd::Failed)
     }
@@ -88,7 +90,9 @@ impl<S: Sectors> Playing<S> {
         requires line { TakesLine self.old.cpu }
         ensures still { IsStill self.old self.new }
         ensures ended { self.new.ended ≡ self.old.ended }
+        ensures looks { StaysWatched S.sectors S.faults self.old self.new (K.seat station.old) (K.seat station.new) }
         ensures whole { IfOk result (λ whole. whole ≡ true → (typed_line (line_room (state_of self.new []).run) (screen (λ d. d) self.new.bdos.terminal)).ending ≢ NoInput) }
+        ensures part { IfOk result (λ whole. (typed_line (line_room (state_of self.new []).run) (screen (λ d. d) self.new.bdos.terminal)).ending ≢ NoInput → whole ≡ true) }
         ensures echo { OnOk result (IsEcho (state_of self.new []).run self.new.ahead.items) }
         ensures waits { (limit : ℕ) (start : PlayState S) (before : Seat) → Waits S.sectors S.faults limit start before self.old (K.seat station.old) → WaitsOn S.sectors S.faults limit result start before self.new (K.seat station.new) }
     {
@@ -108,11 +112,14 @@ impl<S: Sectors> Playing<S> {
     fn await_line<K: Station>(&mut self, alloc: Global, station: &mut K) -> Result<(), PlayEnd>
         requires line { TakesLine self.old.cpu }
         ensures still { IsStill self.old self.new }
-        ensures ready { OnOk result (IsReady need.Line (state_of self.new []).run self.new.ended) }
+        ensures looks { (start : PlayState S) (before : Seat) (a : Attention) → Watched S.sectors S.faults start before self.old (K.seat station.old) a → self.old.turns ≤ a.last + 4000000 → Attended S.sectors S.faults result start before self.new (K.seat station.new) }
         ensures waits { (limit : ℕ) (start : PlayState S) (before : Seat) → Waits S.sectors S.faults limit start before self.old (K.seat station.old) → WaitsOn S.sectors S.faults limit result start before self.new (K.seat station.new) }
     {
         for _ in 0..MOST_WAITS {
-            if self.echo(alloc, station)? || self.ended {
+            if self.echo(alloc, station)? {
+                return Ok(());
+            }
+            if self.ended {
                 return Ok(());
             }
             if let Err(end) = self.listen(alloc, station, Patience::Wait) {
@@ -123,21 +130,39 @@ impl<S: Sectors> Playing<S> {
     }
 
     /// Shows all, and looks at the keyboard once or until the next step has what it takes.
-    fn ask<K: Station>(&mut self, alloc: Global, station: &mut K, need: Need) -> Result<(), PlayEnd>
-        requires need { need ≡ need_of self.old.cpu }
+    fn ask<K: Station>(
+        &mut self,
+        alloc: Global,
+        station: &mut K,
+        patience: Patience,
+    ) -> Result<(), PlayEnd>
+        requires patience { patience ≡ patience_of self.old.cpu }
         ensures still { IsStill self.old self.new }
-        ensures ready { OnOk result (IsReady need (state_of self.new []).run self.new.ended) }
+        ensures looks { (start : PlayState S) (before : Seat) (a : Attention) → Watched S.sectors S.faults start before self.old (K.seat station.old) a → a.here ≡ false → self.old.turns ≤ a.last + 4000000
+            → (patience ≡ how.Glance → a.last + 2000000 ≤ self.old.turns) → Attended S.sectors S.faults result start before self.new (K.seat station.new) }
         ensures so_far { (limit : ℕ) (start : PlayState S) (before : Seat) → SoFar S.sectors S.faults start before self.old (K.seat station.old) → IsBetween limit self.old → Continues S.sectors S.faults limit result start before self.new (K.seat station.new) }
     {
         self.show_all(station)?;
-        match need {
-            Need::Nothing | Need::Status => self.listen(alloc, station, patience_for(need)),
-            Need::Byte => self.await_byte(alloc, station),
-            Need::Line => self.await_line(alloc, station),
+        match patience {
+            Patience::Wait => {}
+            _ => return self.listen(alloc, station, patience),
+        }
+        if takes_line(&self.cpu) {
+            self.await_line(alloc, station)
+        } else {
+            self.await_byte(alloc, station)
         }
     }
 
-    /// Sees that the next step has the input that it needs, and that the keyboard is looked at from time to time.
+    /// Whether the next step can be made without a look.
+    fn needs_no_look(&self, patience: Patience) -> bool
+        ensures yes { result ≡ true → (patience ≡ how.Glance) × (self.now.turns - self.now.looked < 2000000) }
+        ensures no { result ≡ false → patience ≡ how.Glance → self.now.looked + 2000000 ≤ self.now.turns }
+    {
+        patience == Patience::Glance && self.turns.saturating_sub(self.looked) < LONGEST_UNSEEN
+    }
+
+    /// Sees that the next step has the input that it takes, and that the keyboard is looked at from time to time.
     pub(crate) fn attend<K: Station>(
         &mut self,
         alloc: Global,
@@ -146,16 +171,19 @@ impl<S: Sectors> Playing<S> {
         requires looked { self.old.looked ≤ self.old.turns }
         ensures cpu { self.new.cpu ≡ self.old.cpu }
         ensures turns { self.new.turns ≡ self.old.turns }
-        ensures ready { OnOk result (IsReady (need_of self.old.cpu) (state_of self.new []).run self.new.ended) }
         ensures looked { self.new.looked ≤ self.new.turns }
         ensures lately { OnOk result (self.new.turns - self.new.looked < 2000000) }
+        ensures looks { (start : PlayState S) (before : Seat) (a : Attention) → Watched S.sectors S.faults start before self.old (K.seat station.old) a → a.here ≡ false → a.last ≡ self.old.looked → self.old.turns ≤ self.old.looked + 4000000
+            → Fit S.sectors S.faults result start before self.new (K.seat station.new) }
         ensures so_far { (limit : ℕ) (start : PlayState S) (before : Seat) → SoFar S.sectors S.faults start before self.old (K.seat station.old) → IsBetween limit self.old → Continues S.sectors S.faults limit result start before self.new (K.seat station.new) }
     {
-        let need = needed(&self.cpu);
-        if need == Need::Nothing && self.turns.saturating_sub(self.looked) < LONGEST_UNSEEN {
+        let patience = patience_of(&self.cpu);
+        if self.needs_no_look(patience) {
             return Ok(());
         }
-        self.ask(alloc, station, need)?;
+        if let Err(end) = self.ask(alloc, station, patience) {
+            return Err(end);
+        }
         self.looked = self.turns;
         Ok(())
     }

@@ -16,5 +16,5 @@ returns-after-print-2-clause-shows g c =
           rw (w.result-is, ← c.self.view_is)
           (shows_bytes _ _ _ _ _ _ _ _ _ _ (same_false the_type _ _ (sym c.if-eq.ensures)) shown.codes shown.next
           (subst (Appends (g.S.Sink.stream c.self.inside.output).bytes (g.S.Sink.stream c.print-in-Ok-show.new.sink).bytes) text w.in-Ok-print.ensures.0.0))
-      | in-Err-print w ↦ rw (w.result-is, ← c.self.view_is) (refl, refl)
+      | in-Err-print w ↦ rw (w.result-is, ← c.self.view_is) (refl, refl, refl)
     ]

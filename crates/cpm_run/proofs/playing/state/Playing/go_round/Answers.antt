@@ -1,12 +1,7 @@
-use Rattle.std.proofs.Common.{◌+◌, ◌∙◌, [], inl, inr, subst, sym, refl, arith}
-use Rattle.cpm_run.specs.Private.Asking.{IsReady, need_of}
-use Rattle.cpm_run.specs.Private.Playing.{state_of}
-use Rattle.cpm_run.proofs.Sitting.{arrives, gone, moved_on, over_here, same_arrives, shown_on, sooner, went_on}
+use Rattle.std.proofs.Common.{◌+◌, ◌∙◌, inl, inr, sym, refl, arith}
+use Rattle.cpm_run.proofs.Looking.{kept_looking, watched_last}
+use Rattle.cpm_run.proofs.Sitting.{arrives, gone, moved_on, over_here, same_arrives, shown_on, sooner}
 use Rattle.cpm_run.proofs.playing.state.Playing.go_round.Goals as goal
-
-pub take_ready_turn-requires-clause-ready : goal.take_ready_turn-requires-clause-ready
-take_ready_turn-requires-clause-ready g c =
-    subst (λ cpu. IsReady (need_of cpu) (state_of c.attend.new.self []).run c.attend.new.self.ended) (sym c.in_default-attend.ensures.cpu) c.in_default-attend.ensures.ready
 
 pub returns-in-Some-clause-so_far : goal.returns-in-Some-clause-so_far
 returns-in-Some-clause-so_far g c = λ start before begins.
@@ -34,45 +29,72 @@ returns-in-Err-clause-so_far g c = λ start before begins.
     let computed = moved_on _ _ start before _ c.args.self.now _ first (gone _ _ c.compute.result start _ c.in_default.not-Some (c.compute.ensures.goes start first.stands.shown first.stands.plays)) c.compute.ensures.ahead c.compute.ensures.arrivals c.compute.ensures.ended c.compute.ensures.least in
     c.in-Err.ensures.so_far c.args.limit start before computed (record { going = sym c.is_finished.ensures ∙ c.if-is_finished.false; below = let most = c.compute.ensures.bound in let least = c.min.ensures in let room = c.requires.bound in let other = c.if-self-limit.false in omega (arith, most, least, room, other) })
 
-pub returns-in-Some-take_ready_turn-clause-so_far : goal.returns-in-Some-take_ready_turn-clause-so_far
-returns-in-Some-take_ready_turn-clause-so_far g c = λ start before begins.
+pub returns-in-Some-take_turn-clause-so_far : goal.returns-in-Some-take_turn-clause-so_far
+returns-in-Some-take_turn-clause-so_far g c = λ start before begins.
     let first = begins.0 in
     let computed = moved_on _ _ start before _ c.args.self.now _ first (gone _ _ c.compute.result start _ c.in_default.not-Some (c.compute.ensures.goes start first.stands.shown first.stands.plays)) c.compute.ensures.ahead c.compute.ensures.arrivals c.compute.ensures.ended c.compute.ensures.least in
     let attended = c.in_default-attend.ensures.so_far c.args.limit start before computed (record { going = sym c.is_finished.ensures ∙ c.if-is_finished.false; below = let most = c.compute.ensures.bound in let least = c.min.ensures in let room = c.requires.bound in let other = c.if-self-limit.false in omega (arith, most, least, room, other) }) in
-    over_here _ _ c.args.limit c.in-Some-take_ready_turn.why start before _ c.attend.new.self _ attended (inr (inr (c.in-Some-take_ready_turn.ensures.goes start attended.stands.shown attended.stands.plays))) c.take_ready_turn.ensures.ahead c.take_ready_turn.ensures.arrivals c.take_ready_turn.ensures.ended
-    (sooner (c.attend.new.self.turns + 1) _ c.attend.new.self.arrivals.items _ (let t = c.take_ready_turn.ensures.turns in omega (arith, t)) refl attended.time)
+    over_here _ _ c.args.limit c.in-Some-take_turn.why start before _ c.attend.new.self _ attended (inr (inr (c.in-Some-take_turn.ensures.goes start attended.stands.shown attended.stands.plays))) c.take_turn.ensures.ahead c.take_turn.ensures.arrivals c.take_turn.ensures.ended
+    (sooner (c.attend.new.self.turns + 1) _ c.attend.new.self.arrivals.items _ (let t = c.take_turn.ensures.turns in omega (arith, t)) refl attended.time)
 
 pub returns-in-Ok-clause-so_far : goal.returns-in-Ok-clause-so_far
 returns-in-Ok-clause-so_far g c = λ start before begins.
     let first = begins.0 in
     let computed = moved_on _ _ start before _ c.args.self.now _ first (gone _ _ c.compute.result start _ c.in_default.not-Some (c.compute.ensures.goes start first.stands.shown first.stands.plays)) c.compute.ensures.ahead c.compute.ensures.arrivals c.compute.ensures.ended c.compute.ensures.least in
     let attended = c.in_default-attend.ensures.so_far c.args.limit start before computed (record { going = sym c.is_finished.ensures ∙ c.if-is_finished.false; below = let most = c.compute.ensures.bound in let least = c.min.ensures in let room = c.requires.bound in let other = c.if-self-limit.false in omega (arith, most, least, room, other) }) in
-    let taken = moved_on _ _ start before _ c.attend.new.self _ attended (gone _ _ c.take_ready_turn.result start _ c.in_default-take_ready_turn.not-Some (c.take_ready_turn.ensures.goes start attended.stands.shown attended.stands.plays)) c.take_ready_turn.ensures.ahead c.take_ready_turn.ensures.arrivals c.take_ready_turn.ensures.ended (let t = c.take_ready_turn.ensures.turns in omega (arith, t)) in
-    let before_now = sooner (c.attend.new.self.turns + 1) c.take_ready_turn.new.self.turns c.attend.new.self.arrivals.items c.take_ready_turn.new.self.arrivals.items (let t = c.take_ready_turn.ensures.turns in omega (arith, t)) c.take_ready_turn.ensures.arrivals attended.time in (
-      shown_on _ _ start before (g.K.Station.seat c.attend.new.station) _ c.take_ready_turn.new.self _ taken (c.in-Ok.ensures.so_far start before taken.stands) c.in-Ok.ensures.keys c.show_much.ensures.arrivals c.show_much.ensures.ended c.show_much.ensures.still.turns,
-      sooner c.take_ready_turn.new.self.turns _ c.take_ready_turn.new.self.arrivals.items _ (let t = c.show_much.ensures.still.turns in omega (arith, t)) c.show_much.ensures.arrivals before_now,
+    let taken = moved_on _ _ start before _ c.attend.new.self _ attended (gone _ _ c.take_turn.result start _ c.in_default-take_turn.not-Some (c.take_turn.ensures.goes start attended.stands.shown attended.stands.plays)) c.take_turn.ensures.ahead c.take_turn.ensures.arrivals c.take_turn.ensures.ended (let t = c.take_turn.ensures.turns in omega (arith, t)) in
+    let before_now = sooner (c.attend.new.self.turns + 1) c.take_turn.new.self.turns c.attend.new.self.arrivals.items c.take_turn.new.self.arrivals.items (let t = c.take_turn.ensures.turns in omega (arith, t)) c.take_turn.ensures.arrivals attended.time in (
+      shown_on _ _ start before (g.K.Station.seat c.attend.new.station) _ c.take_turn.new.self _ taken (c.in-Ok.ensures.so_far start before taken.stands) c.in-Ok.ensures.keys c.show_much.ensures.arrivals c.show_much.ensures.ended c.show_much.ensures.still.turns,
+      sooner c.take_turn.new.self.turns _ c.take_turn.new.self.arrivals.items _ (let t = c.show_much.ensures.still.turns in omega (arith, t)) c.show_much.ensures.arrivals before_now,
     )
-
-pub returns-in-Ok-clause-ready : goal.returns-in-Ok-clause-ready
-returns-in-Ok-clause-ready g c = λ start before begins.
-    let first = begins.0 in
-    let computed = moved_on _ _ start before _ c.args.self.now _ first (gone _ _ c.compute.result start _ c.in_default.not-Some (c.compute.ensures.goes start first.stands.shown first.stands.plays)) c.compute.ensures.ahead c.compute.ensures.arrivals c.compute.ensures.ended c.compute.ensures.least in
-    let attended = c.in_default-attend.ensures.so_far c.args.limit start before computed (record { going = sym c.is_finished.ensures ∙ c.if-is_finished.false; below = let most = c.compute.ensures.bound in let least = c.min.ensures in let room = c.requires.bound in let other = c.if-self-limit.false in omega (arith, most, least, room, other) }) in
-    let ready = subst (λ cpu. IsReady (need_of cpu) (state_of c.attend.new.self []).run c.attend.new.self.ended) (sym c.in_default-attend.ensures.cpu) c.in_default-attend.ensures.ready in record {
-      last = state_of c.attend.new.self attended.stands.shown;
-      next = (state_of c.take_ready_turn.new.self []).run;
-      plays = attended.stands.plays;
-      ready = subst (IsReady (need_of c.attend.new.self.cpu) (state_of c.attend.new.self []).run) (sym (c.show_much.ensures.ended ∙ c.take_ready_turn.ensures.ended)) ready;
-      turn = went_on g.S.Sectors.sectors g.S.Sectors.faults c.take_ready_turn.result (state_of c.attend.new.self []).run (state_of c.take_ready_turn.new.self []).run c.in_default-take_ready_turn.not-Some c.take_ready_turn.ensures.turn;
-      cpu = c.show_much.ensures.still.cpu;
-      count = c.show_much.ensures.still.turns ∙ c.take_ready_turn.ensures.turns;
-      arrivals = c.show_much.ensures.arrivals ∙ c.take_ready_turn.ensures.arrivals;
-    }
 
 pub returns-in-Err-show_much-clause-so_far : goal.returns-in-Err-show_much-clause-so_far
 returns-in-Err-show_much-clause-so_far g c = λ start before begins.
     let first = begins.0 in
     let computed = moved_on _ _ start before _ c.args.self.now _ first (gone _ _ c.compute.result start _ c.in_default.not-Some (c.compute.ensures.goes start first.stands.shown first.stands.plays)) c.compute.ensures.ahead c.compute.ensures.arrivals c.compute.ensures.ended c.compute.ensures.least in
     let attended = c.in_default-attend.ensures.so_far c.args.limit start before computed (record { going = sym c.is_finished.ensures ∙ c.if-is_finished.false; below = let most = c.compute.ensures.bound in let least = c.min.ensures in let room = c.requires.bound in let other = c.if-self-limit.false in omega (arith, most, least, room, other) }) in
-    let taken = moved_on _ _ start before _ c.attend.new.self _ attended (gone _ _ c.take_ready_turn.result start _ c.in_default-take_ready_turn.not-Some (c.take_ready_turn.ensures.goes start attended.stands.shown attended.stands.plays)) c.take_ready_turn.ensures.ahead c.take_ready_turn.ensures.arrivals c.take_ready_turn.ensures.ended (let t = c.take_ready_turn.ensures.turns in omega (arith, t)) in
-    (c.in-Err-show_much.ensures.so_far start before taken.stands, same_arrives before c.take_ready_turn.new.self.arrivals.items _ c.show_much.ensures.arrivals (arrives before (g.K.Station.seat c.attend.new.station) _ _ taken.heard))
+    let taken = moved_on _ _ start before _ c.attend.new.self _ attended (gone _ _ c.take_turn.result start _ c.in_default-take_turn.not-Some (c.take_turn.ensures.goes start attended.stands.shown attended.stands.plays)) c.take_turn.ensures.ahead c.take_turn.ensures.arrivals c.take_turn.ensures.ended (let t = c.take_turn.ensures.turns in omega (arith, t)) in
+    (c.in-Err-show_much.ensures.so_far start before taken.stands, same_arrives before c.take_turn.new.self.arrivals.items _ c.show_much.ensures.arrivals (arrives before (g.K.Station.seat c.attend.new.station) _ _ taken.heard))
+
+pub returns-in-Some-clause-looks : goal.returns-in-Some-clause-looks
+returns-in-Some-clause-looks g c = λ start before rests. (rests.so_far.looks, rests.watched.looks, c.in-Some.ensures.looks start rests.watched.shown rests.so_far rests.watched.attends rests.here (let most = c.min.ensures in let lately = rests.lately in let last = rests.last in omega (arith, most, lately, last)))
+
+pub returns-then-is_finished-clause-looks : goal.returns-then-is_finished-clause-looks
+returns-then-is_finished-clause-looks g c = λ start before rests.
+    let computed = kept_looking _ _ c.compute.result start before _ c.args.self.now c.compute.new.self rests.so_far rests.so_far rests.watched refl c.in_default.not-Some (c.compute.ensures.looks start rests.watched.shown rests.so_far rests.watched.attends rests.here (let most = c.min.ensures in let lately = rests.lately in let last = rests.last in omega (arith, most, lately, last))) c.compute.ensures.ended refl in
+    watched_last _ _ start before _ c.compute.new.self rests.so_far computed
+
+pub returns-then-self-limit-clause-looks : goal.returns-then-self-limit-clause-looks
+returns-then-self-limit-clause-looks g c = λ start before rests.
+    let computed = kept_looking _ _ c.compute.result start before _ c.args.self.now c.compute.new.self rests.so_far rests.so_far rests.watched refl c.in_default.not-Some (c.compute.ensures.looks start rests.watched.shown rests.so_far rests.watched.attends rests.here (let most = c.min.ensures in let lately = rests.lately in let last = rests.last in omega (arith, most, lately, last))) c.compute.ensures.ended refl in
+    watched_last _ _ start before _ c.compute.new.self rests.so_far computed
+
+pub returns-in-Err-clause-looks : goal.returns-in-Err-clause-looks
+returns-in-Err-clause-looks g c = λ start before rests.
+    let computed = kept_looking _ _ c.compute.result start before _ c.args.self.now c.compute.new.self rests.so_far rests.so_far rests.watched refl c.in_default.not-Some (c.compute.ensures.looks start rests.watched.shown rests.so_far rests.watched.attends rests.here (let most = c.min.ensures in let lately = rests.lately in let last = rests.last in omega (arith, most, lately, last))) c.compute.ensures.ended refl in
+    c.in-Err.ensures.looks start before rests.so_far computed rests.here (rests.last ∙ sym c.compute.ensures.looked) (let most = c.compute.ensures.bound in let least = c.min.ensures in let lately = rests.lately in let same = c.compute.ensures.looked in omega (arith, most, least, lately, same))
+
+pub returns-in-Some-take_turn-clause-looks : goal.returns-in-Some-take_turn-clause-looks
+returns-in-Some-take_turn-clause-looks g c = λ start before rests.
+    let computed = kept_looking _ _ c.compute.result start before _ c.args.self.now c.compute.new.self rests.so_far rests.so_far rests.watched refl c.in_default.not-Some (c.compute.ensures.looks start rests.watched.shown rests.so_far rests.watched.attends rests.here (let most = c.min.ensures in let lately = rests.lately in let last = rests.last in omega (arith, most, lately, last))) c.compute.ensures.ended refl in
+    let fit = c.in_default-attend.ensures.looks start before rests.so_far computed rests.here (rests.last ∙ sym c.compute.ensures.looked) (let most = c.compute.ensures.bound in let least = c.min.ensures in let lately = rests.lately in let same = c.compute.ensures.looked in omega (arith, most, least, lately, same)) in
+    (fit.0.so_far.looks, fit.0.watched.looks, c.in-Some-take_turn.ensures.looks start fit.0.watched.shown fit.0.so_far fit.0.watched.attends fit.0.may)
+
+pub returns-in-Ok-clause-looks : goal.returns-in-Ok-clause-looks
+returns-in-Ok-clause-looks g c = λ start before rests.
+    let computed = kept_looking _ _ c.compute.result start before _ c.args.self.now c.compute.new.self rests.so_far rests.so_far rests.watched refl c.in_default.not-Some (c.compute.ensures.looks start rests.watched.shown rests.so_far rests.watched.attends rests.here (let most = c.min.ensures in let lately = rests.lately in let last = rests.last in omega (arith, most, lately, last))) c.compute.ensures.ended refl in
+    let fit = c.in_default-attend.ensures.looks start before rests.so_far computed rests.here (rests.last ∙ sym c.compute.ensures.looked) (let most = c.compute.ensures.bound in let least = c.min.ensures in let lately = rests.lately in let same = c.compute.ensures.looked in omega (arith, most, least, lately, same)) in
+    let taken = kept_looking _ _ c.take_turn.result start before _ c.attend.new.self c.take_turn.new.self fit.0.so_far _ fit.0.watched refl c.in_default-take_turn.not-Some (c.take_turn.ensures.looks start fit.0.watched.shown fit.0.so_far fit.0.watched.attends fit.0.may) c.take_turn.ensures.ended refl in record {
+      so_far = _;
+      watched = c.show_much.ensures.looks start before _ taken;
+      here = refl;
+      last = fit.1 ∙ sym c.take_turn.ensures.looked ∙ sym c.show_much.ensures.still.looked;
+      lately = let recent = c.in_default-attend.ensures.lately in let one = c.take_turn.ensures.turns in let same = c.take_turn.ensures.looked in let still = c.show_much.ensures.still.turns in let also = c.show_much.ensures.still.looked in omega (arith, recent, one, same, still, also);
+    }
+
+pub returns-in-Err-show_much-clause-looks : goal.returns-in-Err-show_much-clause-looks
+returns-in-Err-show_much-clause-looks g c = λ start before rests.
+    let computed = kept_looking _ _ c.compute.result start before _ c.args.self.now c.compute.new.self rests.so_far rests.so_far rests.watched refl c.in_default.not-Some (c.compute.ensures.looks start rests.watched.shown rests.so_far rests.watched.attends rests.here (let most = c.min.ensures in let lately = rests.lately in let last = rests.last in omega (arith, most, lately, last))) c.compute.ensures.ended refl in
+    let fit = c.in_default-attend.ensures.looks start before rests.so_far computed rests.here (rests.last ∙ sym c.compute.ensures.looked) (let most = c.compute.ensures.bound in let least = c.min.ensures in let lately = rests.lately in let same = c.compute.ensures.looked in omega (arith, most, least, lately, same)) in
+    let taken = kept_looking _ _ c.take_turn.result start before _ c.attend.new.self c.take_turn.new.self fit.0.so_far _ fit.0.watched refl c.in_default-take_turn.not-Some (c.take_turn.ensures.looks start fit.0.watched.shown fit.0.so_far fit.0.watched.attends fit.0.may) c.take_turn.ensures.ended refl in
+    watched_last _ _ start before _ c.show_much.new.self _ (c.show_much.ensures.looks start before _ taken)
