@@ -1,13 +1,13 @@
 -- What is printed for the commands that show something.
-use Rattle.std.specs.Prelude.{◌≡◌, ◌+◌, ◌==◌, ◌&&◌, ℕ, Bool, List, [], ◌∷◌, ◌++◌, Option, Some, None, codes, decimal, drop, filter, find, if◌then◌else◌, length, map, nat_eq, nat_lt, not, true}
-use Rattle.std.specs.List.{flat_map, starts_with}
+use Rattle.std.specs.Prelude.{◌≡◌, ◌+◌, ◌==◌, ◌&&◌, ◌||◌, ℕ, Bool, List, [], ◌∷◌, ◌++◌, Option, Some, None, codes, decimal, drop, filter, find, if◌then◌else◌, length, map, nat_eq, nat_lt, not, true}
+use Rattle.std.specs.List.{flat_map, list_all, starts_with}
 use Rattle.bstr.specs.Text.{lines_of, without_terminator}
 use Rattle.cpm_run.specs.Run.{why_text}
 use Rattle.cpm_run.specs.Turns.{bdos}
 use Rattle.cpm_run.specs.declared.ending.Why.{Why}
 use Rattle.hex.specs.Hex.{encode_upper}
 use Rattle.z80_cpu.specs.State.{Machine, up_by, word_at}
-use Rattle.state_text.specs.Printing.Columns.{word_text}
+use Rattle.state_text.specs.Printing.Columns.{column, word_text}
 use Rattle.state_text.specs.Printing.Memory.{memory_text, shown_character}
 use Rattle.state_text.specs.Printing.Registers.{registers_text}
 use Rattle.debugger_commands.specs.declared.command.Command.{Command}
@@ -88,6 +88,14 @@ breakpoints_at address there breakpoints = filter (λ it. is_chosen address ther
 
 abbrev pub watches_at : ℕ → Bool → List ℕ → List ℕ
 watches_at address there watches = filter (is_chosen address there) watches
+
+-- what `info` and `delete` list of the breakpoints and the watched bytes that were set; nothing for another command
+abbrev pub listed_stops : Known → Stops → Command → List ℕ
+listed_stops known stops command.Info = stops_text nothing_set [] known stops.breakpoints.items stops.watches.items
+listed_stops known stops (command.Delete None) = stops_text nothing_set (codes "deleted ") known stops.breakpoints.items stops.watches.items
+listed_stops known stops (command.Delete (Some address)) =
+    stops_text nothing_there (codes "deleted ") known (breakpoints_at address true stops.breakpoints.items) (watches_at address true stops.watches.items)
+listed_stops known stops other = []
 
 -- ---- `who`
 
@@ -203,11 +211,29 @@ stack_text known memory sp = flat_map (λ offset. stack_word_line known memory (
 
 -- ---- the list of `help`
 
--- The lines begin with these commands in their forms, in this order, each with a blank after it. Lines may follow that are of no command.
-abbrev pub ListsVerbs : List Verb → List (List ℕ) → Type 0
-ListsVerbs [] lines = Unit {0}
-ListsVerbs (verb ∷ rest) [] = ⊥
-ListsVerbs (verb ∷ rest) (line ∷ lines) = (starts_with nat_eq line (verb_name verb ++ argument_forms verb ++ codes " ") ≡ true) × ListsVerbs rest lines
+-- the forms of commands, with commas between them
+abbrev pub verb_forms : List Verb → List ℕ
+verb_forms [] = []
+verb_forms (verb ∷ []) = verb_name verb ++ argument_forms verb
+verb_forms (verb ∷ next ∷ more) = verb_name verb ++ argument_forms verb ++ codes ", " ++ verb_forms (next ∷ more)
+
+-- a line of `help`: the forms of some commands, and what these do, from the 27th column on
+abbrev pub help_line : List Verb × List ℕ → List ℕ
+help_line entry = column 25 (verb_forms entry.0) ++ entry.1 ++ codes "\n"
+
+-- words of one line that show no optional argument, which would be in brackets
+abbrev pub is_prose : List ℕ → Bool
+is_prose words = list_all (λ byte. not ((byte == 0x5B) || (byte == 0x0A))) words
+
+-- A list has exactly these commands in their forms, in this order, one or more to a line; then come lines of prose.
+abbrev pub ListsVerbs : List Verb → List ℕ → Type 0
+ListsVerbs verbs text =
+    (entries : List (List Verb × List ℕ)) × (notes : List (List ℕ)) × (flat_map (λ entry. entry.0) entries ≡ verbs) × (list_all (λ entry. is_prose entry.1) entries ≡ true)
+    × (list_all is_prose notes ≡ true) × (text ≡ flat_map help_line entries ++ flat_map (λ note. note ++ codes "\n") notes)
+
+-- A text fits on a terminal of 24 lines of 80 columns, with a line left for the next command.
+abbrev pub FitsTerminal : List ℕ → Type 0
+FitsTerminal text = (nat_lt (length (lines_of text)) 24 ≡ true) × (list_all (λ line. nat_lt (length (without_terminator line)) 80) (lines_of text) ≡ true)
 
 -- ---- what a command prints, given the breakpoints and watched bytes before it, how it ended, and what is shown before and after it. Of
 -- `files` this says nothing.
@@ -218,10 +244,8 @@ Says command.Where stops told old shown known listing text = text ≡ where_text
 Says (command.Who address) stops told old shown known listing text = SaysWho address shown known text
 Says (command.Break breakpoint) stops told old shown known listing text = text ≡ breakpoint_line known breakpoint
 Says (command.Watch from count) stops told old shown known listing text = text ≡ watch_line known from count
-Says (command.Delete None) stops told old shown known listing text = text ≡ stops_text nothing_set (codes "deleted ") known stops.breakpoints.items stops.watches.items
-Says (command.Delete (Some address)) stops told old shown known listing text =
-    text ≡ stops_text nothing_there (codes "deleted ") known (breakpoints_at address true stops.breakpoints.items) (watches_at address true stops.watches.items)
-Says command.Info stops told old shown known listing text = text ≡ stops_text nothing_set [] known stops.breakpoints.items stops.watches.items
+Says (command.Delete address) stops told old shown known listing text = text ≡ listed_stops known stops (command.Delete address)
+Says command.Info stops told old shown known listing text = text ≡ listed_stops known stops command.Info
 Says (command.Disassemble from count) stops told old shown known listing text = WritesCode known shown.point.state.machine from count text
 Says command.Stack stops told old shown known listing text = text ≡ stack_text known shown.point.state.machine.memory shown.point.state.machine.cpu.sp
 Says command.Help stops told old shown known listing text = text ≡ HELP.now

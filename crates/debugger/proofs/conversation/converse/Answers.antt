@@ -67,8 +67,8 @@ loop-preserved g c =
       reads = let more = c.in_ok-read_some.ensures.reads in let so_far = c.loop.invariant.reads in omega (arith, more, so_far);
     }
 
-pub returns-then-is_over-clause-talks : goal.returns-then-is_over-clause-talks
-returns-then-is_over-clause-talks g c =
+pub returns-clause-talks : goal.returns-clause-talks
+returns-clause-talks g c =
     let s = c.args.session.now in
     let t = c.loop.session in
     let first : SessionState = record { shown = s.history; stops = s.stops; is_over = s.is_over } in
