@@ -9,14 +9,14 @@ use crate::text::{
     put_stops, put_watch, put_where, put_who,
 };
 use debugger_commands::{Command, command_of, refusal_line};
-use machine_history::{Goal, History, Hit, Outcome, ReturnPlace, Stops, call_place};
+use machine_history::{Goal, History, Hit, Outcome, ReturnPlace, Stops, Watch, call_place};
 use state_text::{Breakpoint, Condition, Labels, RegisterName, put_memory, put_registers};
 use std::alloc::{AllocError, Global};
 
 /// The most turns that one command makes which runs to something: `run`, `next` or `finish`.
 pub const MOST_TURNS: u64 = 100_000_000;
 
-/// What `back-run` says if it has come to the start and nothing held on the way.
+/// What `back-run` says if nothing held at any earlier turn, so that it goes to the start.
 const NOTHING_HELD: &[u8] = b"nothing held before: this is the start\n";
 
 /// What is said if nothing is set.
@@ -25,7 +25,8 @@ const NOTHING_SET: &[u8] = b"no breakpoints, and no watched bytes\n";
 /// What is said if nothing is set at an address.
 const NOTHING_THERE: &[u8] = b"no breakpoint and no watched byte is there\n";
 
-const HELP: &[u8] = b"step [N], next            make N turns, or one; one turn, but over a whole call
+const HELP: &[u8] =
+    b"step [N], next            make N turns, or one; one turn, but over a whole call
 finish                    to the first return after which SP is higher
 run [ADDR]                to ADDR, a breakpoint, a watched byte, or the end
 back [N], back-next       go back by N turns, or one; by one, but over a call
@@ -260,7 +261,10 @@ impl<'a> Session<'a> {
         ensures { IfOk result (λ last. (stops : TheStops) × Watches address stops × IsLast stops self.now.history self.now.history.turn last) }
     {
         let mut stops = Stops::new(self.alloc);
-        stops.watches.push(address)?;
+        stops.watches.push(Watch {
+            from: address,
+            count: 1,
+        })?;
         self.history.last(self.alloc, &stops, self.history.turn())
     }
 
@@ -297,11 +301,20 @@ impl<'a> Session<'a> {
 
     /// PC with its label, and its line of the listing.
     fn place(&self) -> Result<Vec<u8>, AllocError>
-        ensures { IfOk result (λ text. text.items ≡ where_text self.now.labels self.now.listing.now self.now.history.point.state.machine.cpu.pc) }
+        ensures { IfOk result (λ text. text.items ≡ where_text self.now.labels self.now.listing.now self.now.history.point.state.machine.memory self.now.history.point.state.machine.cpu.pc) }
     {
-        let pc = self.history.point().snapshot().cpu().pc;
+        let snapshot = self.history.point().snapshot();
+        let pc = snapshot.cpu().pc;
+        let memory = snapshot.memory();
         let mut text = Vec::new(self.alloc);
-        put_where(self.alloc, &self.labels, self.listing, pc, &mut text)?;
+        put_where(
+            self.alloc,
+            &self.labels,
+            self.listing,
+            memory,
+            pc,
+            &mut text,
+        )?;
         Ok(text)
     }
 

@@ -36,6 +36,7 @@ notes =
     []
 
 pub returns-clause-order : goal.returns-clause-order
+unfolding entries notes
 returns-clause-order c = (entries, notes, refl, refl, refl, refl)
 
 pub returns-clause-fits : goal.returns-clause-fits
