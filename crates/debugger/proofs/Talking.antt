@@ -1,5 +1,5 @@
 -- Conversations, one after the other.
-use Rattle.std.proofs.Common.{◌≡◌, ◌++◌, ◌∷◌, ◌∙◌, ◌⊎◌, List, [], ℕ, Bool, Option, None, Some, false, true, inl, inr, ap, refl, sym, subst, append-nil, append_assoc}
+use Rattle.std.proofs.Common.{◌≡◌, ◌++◌, ◌∷◌, ◌∙◌, List, [], ℕ, Bool, Option, None, Some, false, true, inl, inr, ap, refl, sym, subst, append-nil, append_assoc}
 use Rattle.std.proofs.KnownBytes.{Appends-nil, Appends-trans, Consumes-trans}
 use Rattle.std.proofs.lemmas.Bool.{true≢false}
 use Rattle.std.proofs.lemmas.Grind.{flat_map-append}
@@ -115,14 +115,11 @@ lines_on known listing line front back mid_line next old mid new a b c going bef
 
 -- ---- the lines of an input
 
--- what is left is the beginning of a line, unless the session was quit
-begun : (tail next : List ℕ) (is_over : Bool) → IsNextLine tail next is_over → (is_over ≡ true) ⊎ HasNoEnd tail
-begun tail next is_over (inl is) = inr (subst HasNoEnd (sym is.0) is.1)
-begun tail next is_over (inr quit) = inl quit
-
-pub so_far : (known : Known) (listing bytes next : List ℕ) (from left : Option (List ℕ)) (old new : SessionState) (a b : Stream) → Consumes from left bytes → TakesLines known listing [] bytes next old new a b
-    → TalksSoFar known listing from left old new a b
-so_far known listing bytes next from left old new a b reads takes = (bytes, takes.0, takes.1, reads, takes.2, begun takes.1 next new.is_over takes.3, takes.4)
+pub so_far : (known : Known) (listing bytes next : List ℕ) (from left : Option (List ℕ)) (old new : SessionState) (a b : Stream) → new.is_over ≡ false → Consumes from left bytes
+    → TakesLines known listing [] bytes next old new a b → TalksSoFar known listing from left old new a b
+so_far known listing bytes next from left old new a b going reads takes =
+    let all = going_on known listing [] bytes next old new a b going takes in
+    (bytes, all.0, next, reads, all.1, going, all.2, all.3)
 
 pub quit_read : (known : Known) (listing bytes next : List ℕ) (from left : Option (List ℕ)) (old new : SessionState) (a b : Stream) → new.is_over ≡ true
     → Consumes from left bytes → TakesLines known listing [] bytes next old new a b → TalksThrough known listing from left old new a b

@@ -86,11 +86,11 @@ ReadsLines from left lines is_over =
 abbrev pub TalksThrough : Known → List ℕ → Option (List ℕ) → Option (List ℕ) → SessionState → SessionState → Stream → Stream → Type 0
 TalksThrough known listing from left old new before after = (lines : List (List ℕ)) × ReadsLines from left lines new.is_over × TalksOn known listing lines old new before after
 
--- The lines that had ended in what was read were obeyed, and their answers were printed. What is left of it is the beginning of a line, unless the
--- session was quit.
+-- The lines that had ended in what was read were obeyed, and their answers were printed. The session was not quit, so nothing was read after
+-- `quit`. What is left of the bytes is the beginning of a line.
 abbrev pub TalksSoFar : Known → List ℕ → Option (List ℕ) → Option (List ℕ) → SessionState → SessionState → Stream → Stream → Type 0
 TalksSoFar known listing from left old new before after =
-    (bytes : List ℕ) × (lines : List (List ℕ)) × (rest : List ℕ) × Consumes from left bytes × BeginsLines bytes lines rest × ((new.is_over ≡ true) ⊎ HasNoEnd rest)
+    (bytes : List ℕ) × (lines : List (List ℕ)) × (rest : List ℕ) × Consumes from left bytes × BeginsLines bytes lines rest × (new.is_over ≡ false) × HasNoEnd rest
     × TalksOn known listing lines old new before after
 
 -- A session of this program with its words, on a disk, with what is typed before it starts and with the bytes of a record, that was led from its

@@ -1,3 +1,2 @@
 -- Definitions that only private contracts use, so no public promise depends on them.
 pub mod Lines
-pub mod Listing

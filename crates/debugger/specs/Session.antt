@@ -1,7 +1,5 @@
 -- What a command does to a session.
-use Rattle.std.specs.Prelude.{◌≡◌, ◌+◌, ◌-◌, ◌^◌, ◌||◌, ℕ, Bool, false, true, List, [], ◌∷◌, ◌++◌, map, min, Option, Some, None, Ok, Err, option_map, unwrap_or}
-use Rattle.std.specs.List.{range_with_len}
-use Rattle.z80_cpu.specs.State.{up_by}
+use Rattle.std.specs.Prelude.{◌≡◌, ◌+◌, ◌-◌, ◌^◌, ◌||◌, ℕ, Bool, false, true, List, [], ◌∷◌, ◌++◌, min, Option, Some, None, Ok, Err, option_map, unwrap_or}
 use Rattle.machine_history.specs.declared.calls.ReturnPlace.{ReturnPlace}
 use Rattle.debugger_commands.specs.declared.command.Command.{Command}
 use Rattle.debugger_commands.specs.declared.command.Command.TheVariants as command
@@ -72,14 +70,10 @@ Moves command.BackRun stops old new told = BackRuns stops old new told
 Moves command.BackNext stops old new told = BackNexts old new told
 Moves command stops old new told = (new ≡ old) × (told ≡ None)
 
--- The addresses of watched bytes. After FFFFH comes address 0.
-abbrev pub addresses : ℕ → ℕ → List ℕ
-addresses from count = map (λ offset. up_by offset from) (range_with_len 0 count)
-
--- The breakpoints and the watched bytes after a command. Every other command leaves them as they were.
+-- The breakpoints and the watches after a command. Every other command leaves them as they were.
 abbrev pub Sets : Command → Stops → Stops → Type 0
 Sets (command.Break breakpoint) old new = (new.breakpoints.items ≡ old.breakpoints.items ++ breakpoint ∷ []) × (new.watches ≡ old.watches)
-Sets (command.Watch from count) old new = (new.breakpoints ≡ old.breakpoints) × (new.watches.items ≡ old.watches.items ++ addresses from count)
+Sets (command.Watch from count) old new = (new.breakpoints ≡ old.breakpoints) × (new.watches.items ≡ old.watches.items ++ record { from = from; count = count } ∷ [])
 Sets (command.Delete None) old new = (new.breakpoints.items ≡ []) × (new.watches.items ≡ [])
 Sets (command.Delete (Some address)) old new =
     (new.breakpoints.items ≡ breakpoints_at address false old.breakpoints.items) × (new.watches.items ≡ watches_at address false old.watches.items)

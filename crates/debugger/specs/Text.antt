@@ -1,13 +1,13 @@
 -- What is printed for the commands that show something.
-use Rattle.std.specs.Prelude.{◌≡◌, ◌+◌, ◌==◌, ◌&&◌, ℕ, Bool, List, [], ◌∷◌, ◌++◌, Option, Some, None, codes, decimal, drop, filter, find, if◌then◌else◌, length, map, nat_eq, nat_lt, not, true}
-use Rattle.std.specs.List.{flat_map, starts_with}
+use Rattle.std.specs.Prelude.{◌≡◌, ◌==◌, ◌&&◌, ◌||◌, ℕ, Bool, List, [], ◌∷◌, ◌++◌, Option, Some, None, codes, decimal, drop, filter, find, if◌then◌else◌, length, map, nat_eq, nat_lt, not, take, true}
+use Rattle.std.specs.List.{flat_map, list_all, position_or_len, starts_with}
 use Rattle.bstr.specs.Text.{lines_of, without_terminator}
 use Rattle.cpm_run.specs.Run.{why_text}
 use Rattle.cpm_run.specs.Turns.{bdos}
 use Rattle.cpm_run.specs.declared.ending.Why.{Why}
 use Rattle.hex.specs.Hex.{encode_upper}
-use Rattle.z80_cpu.specs.State.{Machine, up_by, word_at}
-use Rattle.state_text.specs.Printing.Columns.{word_text}
+use Rattle.z80_cpu.specs.State.{Machine, byte_at, down_by, up_by, word_at}
+use Rattle.state_text.specs.Printing.Columns.{column, word_text}
 use Rattle.state_text.specs.Printing.Memory.{memory_text, shown_character}
 use Rattle.state_text.specs.Printing.Registers.{registers_text}
 use Rattle.debugger_commands.specs.declared.command.Command.{Command}
@@ -21,6 +21,7 @@ use Rattle.state_text.specs.declared.breakpoint.Condition.{Condition}
 use Rattle.machine_history.specs.declared.stops.Hit.{Hit}
 use Rattle.machine_history.specs.declared.stops.Hit.TheVariants as hit
 use Rattle.machine_history.specs.declared.stops.Stops.{Stops}
+use Rattle.machine_history.specs.declared.stops.Watch.{Watch}
 use Rattle.debugger_commands.specs.declared.verb.Verb.{Verb}
 use Rattle.debugger.specs.Instructions.{WritesCode, WritesInstruction}
 use Rattle.state_text.specs.Labelled.{Known, labelled_address}
@@ -46,29 +47,18 @@ count_after count = if count == 1 then [] else codes ", " ++ decimal count ++ co
 abbrev pub watch_line : Known → ℕ → ℕ → List ℕ
 watch_line known from count = codes "watch " ++ labelled_address known from ++ count_after count ++ codes "\n"
 
--- the same after some text, if there are such bytes
-abbrev pub watched_line : List ℕ → Known → ℕ → ℕ → List ℕ
-watched_line before known from count = if count == 0 then [] else before ++ watch_line known from count
-
--- whether an address follows this many bytes, so that one line can name all of them
-abbrev pub follows : ℕ → ℕ → ℕ → Bool
-follows from count address = nat_lt 0 count && (nat_lt count 0xFFFF && (address == up_by count from))
-
--- the lines of `count` watched bytes from an address on, and of more: bytes that follow each other share a line
-abbrev pub watched_lines : List ℕ → Known → ℕ → ℕ → List ℕ → List ℕ
-watched_lines before known from count [] = watched_line before known from count
-watched_lines before known from count (address ∷ more) =
-    if follows from count address then watched_lines before known from (count + 1) more else watched_line before known from count ++ watched_lines before known address 1 more
+abbrev pub watch_lines : List ℕ → Known → List Watch → List ℕ
+watch_lines before known watches = flat_map (λ watch. before ++ watch_line known watch.from watch.count) watches
 
 abbrev pub breakpoint_lines : List ℕ → Known → List Breakpoint → List ℕ
 breakpoint_lines before known breakpoints = flat_map (λ breakpoint. before ++ breakpoint_line known breakpoint) breakpoints
 
--- the lines of the breakpoints, and then those of the watched bytes, in the order in which they were set, each after some text
-abbrev pub stops_lines : List ℕ → Known → List Breakpoint → List ℕ → List ℕ
-stops_lines before known breakpoints watches = breakpoint_lines before known breakpoints ++ watched_lines before known 0 0 watches
+-- the lines of the breakpoints, and then those of the watches, in the order in which they were set, each after some text
+abbrev pub stops_lines : List ℕ → Known → List Breakpoint → List Watch → List ℕ
+stops_lines before known breakpoints watches = breakpoint_lines before known breakpoints ++ watch_lines before known watches
 
 -- the same, or this if there are none
-abbrev pub stops_text : List ℕ → List ℕ → Known → List Breakpoint → List ℕ → List ℕ
+abbrev pub stops_text : List ℕ → List ℕ → Known → List Breakpoint → List Watch → List ℕ
 stops_text none before known breakpoints watches = if (length breakpoints == 0) && (length watches == 0) then none else stops_lines before known breakpoints watches
 
 -- what is said if nothing is set at all, and if nothing is set at an address
@@ -78,16 +68,29 @@ nothing_set = codes "no breakpoints, and no watched bytes\n"
 abbrev pub nothing_there : List ℕ
 nothing_there = codes "no breakpoint and no watched byte is there\n"
 
--- whether this is the address, or another one
-abbrev pub is_chosen : ℕ → Bool → ℕ → Bool
-is_chosen address there other = if there then other == address else not (other == address)
+-- whether a byte is one of those of a watch
+abbrev pub covers : ℕ → Watch → Bool
+covers address watch = nat_lt (down_by watch.from address) watch.count
 
--- the breakpoints and the watched bytes at an address, or those elsewhere
+-- whether something is asked for: that which is there, or that which is not
+abbrev pub is_chosen : Bool → Bool → Bool
+is_chosen there is_there = if there then is_there else not is_there
+
+-- the breakpoints at an address, or those elsewhere
 abbrev pub breakpoints_at : ℕ → Bool → List Breakpoint → List Breakpoint
-breakpoints_at address there breakpoints = filter (λ it. is_chosen address there it.address) breakpoints
+breakpoints_at address there breakpoints = filter (λ it. is_chosen there (it.address == address)) breakpoints
 
-abbrev pub watches_at : ℕ → Bool → List ℕ → List ℕ
-watches_at address there watches = filter (is_chosen address there) watches
+-- the watches of bytes among which the one at an address is, or those without it
+abbrev pub watches_at : ℕ → Bool → List Watch → List Watch
+watches_at address there watches = filter (λ it. is_chosen there (covers address it)) watches
+
+-- what `info` and `delete` list of the breakpoints and the watched bytes that were set; nothing for another command
+abbrev pub listed_stops : Known → Stops → Command → List ℕ
+listed_stops known stops command.Info = stops_text nothing_set [] known stops.breakpoints.items stops.watches.items
+listed_stops known stops (command.Delete None) = stops_text nothing_set (codes "deleted ") known stops.breakpoints.items stops.watches.items
+listed_stops known stops (command.Delete (Some address)) =
+    stops_text nothing_there (codes "deleted ") known (breakpoints_at address true stops.breakpoints.items) (watches_at address true stops.watches.items)
+listed_stops known stops other = []
 
 -- ---- `who`
 
@@ -116,7 +119,7 @@ who_text known address other = unchanged_line known address
 
 -- only this byte is watched
 abbrev pub Watches : ℕ → Stops → Type 0
-Watches address stops = (stops.breakpoints.items ≡ []) × (stops.watches.items ≡ address ∷ [])
+Watches address stops = (stops.breakpoints.items ≡ []) × (stops.watches.items ≡ record { from = address; count = 1 } ∷ [])
 
 -- The last turn that changed a byte, up to the one that is shown.
 abbrev pub SaysWho : ℕ → Shown → Known → List ℕ → Type 0
@@ -129,13 +132,36 @@ SaysWho address shown known text =
 abbrev pub line_with : List ℕ → List ℕ → Option (List ℕ)
 line_with listing digits = find (λ line. starts_with nat_eq line digits) (map without_terminator (lines_of listing))
 
-abbrev pub listing_text : Option (List ℕ) → List ℕ
-listing_text None = []
-listing_text (Some line) = line ++ codes "\n"
+-- the columns of a listing's line that its bytes are in: eight, from the seventh on
+abbrev pub listed_columns : List ℕ → List ℕ
+listed_columns line = take 8 (drop 6 line)
+
+-- the digits of the bytes in a line of a listing
+abbrev pub listed_digits : List ℕ → List ℕ
+listed_digits line = take (position_or_len (λ byte. byte == 0x20) (listed_columns line)) (listed_columns line)
+
+-- the digits of the four bytes from an address on
+abbrev pub digits_at : List ℕ → ℕ → List ℕ
+digits_at memory address = encode_upper (byte_at address memory ∷ byte_at (up_by 1 address) memory ∷ byte_at (up_by 2 address) memory ∷ byte_at (up_by 3 address) memory ∷ [])
+
+-- whether the bytes in memory are those in a line of the listing
+abbrev pub is_as_listed : List ℕ → ℕ → List ℕ → Bool
+is_as_listed memory address line = starts_with nat_eq (digits_at memory address) (listed_digits line)
+
+-- what is said of a line of the listing if memory has other bytes
+abbrev pub changed_since : List ℕ
+changed_since = codes "the bytes here have changed since then: dis PC shows them\n"
+
+abbrev pub listing_note : Bool → List ℕ
+listing_note is_as_listed = if is_as_listed then [] else changed_since
+
+abbrev pub listing_text : List ℕ → ℕ → Option (List ℕ) → List ℕ
+listing_text memory address None = []
+listing_text memory address (Some line) = line ++ codes "\n" ++ listing_note (is_as_listed memory address line)
 
 -- an address with its label, and its line of a listing
-abbrev pub where_text : Known → List ℕ → ℕ → List ℕ
-where_text known listing address = labelled_address known address ++ codes "\n" ++ listing_text (line_with listing (word_text address))
+abbrev pub where_text : Known → List ℕ → List ℕ → ℕ → List ℕ
+where_text known listing memory address = labelled_address known address ++ codes "\n" ++ listing_text memory address (line_with listing (word_text address))
 
 -- ---- what the program has printed
 
@@ -160,11 +186,11 @@ since before now = drop (length before) now
 abbrev pub most_turns : ℕ
 most_turns = 100000000
 
--- what `back-run` says if it has come to the start and nothing held on the way
+-- what `back-run` says if nothing held at any earlier turn, so that it goes to the start
 abbrev pub nothing_held : List ℕ
 nothing_held = codes "nothing held before: this is the start\n"
 
--- Why such a command has stopped before the end of the run, unless it has come to where it was to come. `none` is said if nothing stopped it.
+-- Why such a command has stopped before the end of the run, unless it has reached what it was to reach. `none` is said if nothing stopped it.
 abbrev pub outcome_text : Known → List ℕ → Option Outcome → List ℕ
 outcome_text known none (Some (outcome.Held (hit.Breakpoint address))) = codes "breakpoint " ++ labelled_address known address ++ codes "\n"
 outcome_text known none (Some (outcome.Held (hit.Changed change))) = codes "watch " ++ change_line known change
@@ -173,9 +199,9 @@ outcome_text known none None = none
 outcome_text known none told = []
 
 -- What is there: why the run has ended; or the instruction.
-abbrev pub WritesPoint : Option Why → Machine → List ℕ → Type 0
-WritesPoint (Some why) machine what = what ≡ why_text why
-WritesPoint None machine what = WritesInstruction machine machine.cpu.pc what
+abbrev pub WritesPoint : Option Why → Known → Machine → List ℕ → Type 0
+WritesPoint (Some why) known machine what = what ≡ why_text why
+WritesPoint None known machine what = WritesInstruction known machine machine.cpu.pc what
 
 -- the line of a point: its number of turns, PC, and what is there
 abbrev pub point_line : Known → ℕ → ℕ → List ℕ → List ℕ
@@ -184,7 +210,7 @@ point_line known turn pc what = codes "turn " ++ decimal turn ++ codes " at " ++
 -- What the program has printed since, why the command has stopped, and what is shown now.
 abbrev pub SaysWhere : List ℕ → Option Outcome → Shown → Shown → Known → List ℕ → Type 0
 SaysWhere none told old new known text =
-    (before : List ℕ) × (now : List ℕ) × (what : List ℕ) × Printed old before × Printed new now × WritesPoint new.point.end new.point.state.machine what
+    (before : List ℕ) × (now : List ℕ) × (what : List ℕ) × Printed old before × Printed new now × WritesPoint new.point.end known new.point.state.machine what
     × (text ≡ output_text (since before now) ++ outcome_text known none told ++ point_line known new.turn new.point.state.machine.cpu.pc what)
 
 -- ---- the stack
@@ -203,25 +229,41 @@ stack_text known memory sp = flat_map (λ offset. stack_word_line known memory (
 
 -- ---- the list of `help`
 
--- The lines begin with these commands in their forms, in this order, each with a blank after it. Lines may follow that are of no command.
-abbrev pub ListsVerbs : List Verb → List (List ℕ) → Type 0
-ListsVerbs [] lines = Unit {0}
-ListsVerbs (verb ∷ rest) [] = ⊥
-ListsVerbs (verb ∷ rest) (line ∷ lines) = (starts_with nat_eq line (verb_name verb ++ argument_forms verb ++ codes " ") ≡ true) × ListsVerbs rest lines
+-- the forms of commands, with commas between them
+abbrev pub verb_forms : List Verb → List ℕ
+verb_forms [] = []
+verb_forms (verb ∷ []) = verb_name verb ++ argument_forms verb
+verb_forms (verb ∷ next ∷ more) = verb_name verb ++ argument_forms verb ++ codes ", " ++ verb_forms (next ∷ more)
+
+-- a line of `help`: the forms of some commands, and what these do, from the 27th column on
+abbrev pub help_line : List Verb × List ℕ → List ℕ
+help_line entry = column 25 (verb_forms entry.0) ++ entry.1 ++ codes "\n"
+
+-- words of one line that show no optional argument, which would be in brackets
+abbrev pub is_prose : List ℕ → Bool
+is_prose words = list_all (λ byte. not ((byte == 0x5B) || (byte == 0x0A))) words
+
+-- A list has exactly these commands in their forms, in this order, one or more to a line; then come lines of prose.
+abbrev pub ListsVerbs : List Verb → List ℕ → Type 0
+ListsVerbs verbs text =
+    (entries : List (List Verb × List ℕ)) × (notes : List (List ℕ)) × (flat_map (λ entry. entry.0) entries ≡ verbs) × (list_all (λ entry. is_prose entry.1) entries ≡ true)
+    × (list_all is_prose notes ≡ true) × (text ≡ flat_map help_line entries ++ flat_map (λ note. note ++ codes "\n") notes)
+
+-- A text fits on a terminal of 24 lines of 80 columns, with a line left for the next command.
+abbrev pub FitsTerminal : List ℕ → Type 0
+FitsTerminal text = (nat_lt (length (lines_of text)) 24 ≡ true) × (list_all (λ line. nat_lt (length (without_terminator line)) 80) (lines_of text) ≡ true)
 
 -- ---- what a command prints, given the breakpoints and watched bytes before it, how it ended, and what is shown before and after it. Of
 -- `files` this says nothing.
 abbrev pub Says : Command → Stops → Option Outcome → Shown → Shown → Known → List ℕ → List ℕ → Type 0
 Says command.Registers stops told old shown known listing text = text ≡ registers_text shown.point.state.machine.cpu shown.point.state.system.dma shown.point.state.system.user
 Says (command.Memory from count) stops told old shown known listing text = text ≡ memory_text shown.point.state.machine.memory from count
-Says command.Where stops told old shown known listing text = text ≡ where_text known listing shown.point.state.machine.cpu.pc
+Says command.Where stops told old shown known listing text = text ≡ where_text known listing shown.point.state.machine.memory shown.point.state.machine.cpu.pc
 Says (command.Who address) stops told old shown known listing text = SaysWho address shown known text
 Says (command.Break breakpoint) stops told old shown known listing text = text ≡ breakpoint_line known breakpoint
 Says (command.Watch from count) stops told old shown known listing text = text ≡ watch_line known from count
-Says (command.Delete None) stops told old shown known listing text = text ≡ stops_text nothing_set (codes "deleted ") known stops.breakpoints.items stops.watches.items
-Says (command.Delete (Some address)) stops told old shown known listing text =
-    text ≡ stops_text nothing_there (codes "deleted ") known (breakpoints_at address true stops.breakpoints.items) (watches_at address true stops.watches.items)
-Says command.Info stops told old shown known listing text = text ≡ stops_text nothing_set [] known stops.breakpoints.items stops.watches.items
+Says (command.Delete address) stops told old shown known listing text = text ≡ listed_stops known stops (command.Delete address)
+Says command.Info stops told old shown known listing text = text ≡ listed_stops known stops command.Info
 Says (command.Disassemble from count) stops told old shown known listing text = WritesCode known shown.point.state.machine from count text
 Says command.Stack stops told old shown known listing text = text ≡ stack_text known shown.point.state.machine.memory shown.point.state.machine.cpu.sp
 Says command.Help stops told old shown known listing text = text ≡ HELP.now

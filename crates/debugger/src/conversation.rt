@@ -184,14 +184,16 @@ pub fn converse<I: Input, O: Sink>(
     ensures talks { IfOk result (λ _. TalksThrough session.old.labels session.old.listing.now (I.remaining input.old) (I.remaining input.new) (record { shown = session.old.history; stops = session.old.stops; is_over = session.old.is_over }) (record { shown = session.new.history; stops = session.new.stops; is_over = session.new.is_over }) (O.stream output.old) (O.stream output.new)) }
 {
     let mut line = Vec::new(alloc);
+    let mut reads = 0;
     session.knows();
-    for _ in 0..MOST_READS {
-        if session.is_over() {
-            return Ok(());
+    while !session.is_over() {
+        if reads == MOST_READS {
+            return Err(Broken::Input);
         }
         if read_some(session, input, &mut line, output)? {
             return Ok(());
         }
+        reads += 1;
     }
-    Err(Broken::Input)
+    Ok(())
 }

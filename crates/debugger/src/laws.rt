@@ -1,7 +1,6 @@
 //! Laws of a debugged run, as functions that do nothing.
 
 ghost use Rattle.std.specs.Prelude.{◌≡◌, ℕ, List, Option};
-ghost use Rattle.bstr.specs.Text.{lines_of};
 ghost use Rattle.cpm_disk.specs.Calls.{Mounted};
 ghost use Rattle.cpm_disk.specs.Image.{Image};
 ghost use Rattle.cpm_console.specs.Dialog.{Dialog};
@@ -11,7 +10,7 @@ ghost use Rattle.debugger.specs.Conversation.{SessionState, Talks};
 ghost use Rattle.machine_history.specs.Going.{IsFirstShown};
 ghost use Rattle.state_text.specs.Labelled.{Known};
 ghost use Rattle.debugger.specs.Session.{IsSameRun, Moves};
-ghost use Rattle.debugger.specs.Text.{ListsVerbs};
+ghost use Rattle.debugger.specs.Text.{FitsTerminal, ListsVerbs};
 ghost use Rattle.debugger_commands.specs.Typed.{every_verb};
 ghost use Rattle.debugger_commands.specs.declared.command.Command.{Command};
 ghost use Rattle.machine_history.specs.declared.history.Outcome.{Outcome};
@@ -37,7 +36,9 @@ pub fn one_move()
     z80_machine::laws::one_turn();
 }
 
-/// The list that `help` prints has the commands in the order in which a shortened word is looked for among them.
+/// The list that `help` prints has each command in its form, in the order in which a shortened word is looked for among them, and fits on a
+/// terminal of 24 lines of 80 columns.
 pub fn help_is_in_order()
-    ensures { ListsVerbs every_verb (lines_of HELP.now) }
+    ensures order { ListsVerbs every_verb HELP.now }
+    ensures fits { FitsTerminal HELP.now }
 {}

@@ -15,7 +15,7 @@ pub use cpm_run::{Arrival, StartFault, Why};
 pub use debugger_commands::{Command, Refusal, Verb};
 pub use debugging::{DebugFault, Program, debug};
 pub use machine_history::{
-    Change, Goal, History, Hit, Outcome, Point, ReturnPlace, Snapshot, Stops,
+    Change, Goal, History, Hit, Outcome, Point, ReturnPlace, Snapshot, Stops, Watch,
 };
 pub use session::{MOST_TURNS, Session};
 pub use state_text::{

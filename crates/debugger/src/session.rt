@@ -9,14 +9,14 @@ use crate::text::{
     put_stops, put_watch, put_where, put_who,
 };
 use debugger_commands::{Command, command_of, refusal_line};
-use machine_history::{Goal, History, Hit, Outcome, ReturnPlace, Stops, call_place};
+use machine_history::{Goal, History, Hit, Outcome, ReturnPlace, Stops, Watch, call_place};
 use state_text::{Breakpoint, Condition, Labels, RegisterName, put_memory, put_registers};
 use std::alloc::{AllocError, Global};
 
 /// The most turns that one command makes which runs to something: `run`, `next` or `finish`.
 pub const MOST_TURNS: u64 = 100_000_000;
 
-/// What `back-run` says if it has come to the start and nothing held on the way.
+/// What `back-run` says if nothing held at any earlier turn, so that it goes to the start.
 const NOTHING_HELD: &[u8] = b"nothing held before: this is the start\n";
 
 /// What is said if nothing is set.
@@ -25,32 +25,30 @@ const NOTHING_SET: &[u8] = b"no breakpoints, and no watched bytes\n";
 /// What is said if nothing is set at an address.
 const NOTHING_THERE: &[u8] = b"no breakpoint and no watched byte is there\n";
 
-const HELP: &[u8] = b"step [N]                  make N turns, or one
-next                      one turn, but over the whole of a call
-finish                    go on to the first return that leaves SP above what it is now
-run [ADDR]                go on to ADDR, a breakpoint, a watched byte, or the end
-back [N]                  go back by N turns, or one
-back-next                 go back by one turn, but over the whole of a call that has returned here
-back-run                  go back to the last turn at which a breakpoint or a watched byte held
+const HELP: &[u8] =
+    b"step [N], next            make N turns, or one; one turn, but over a whole call
+finish                    to the first return after which SP is higher
+run [ADDR]                to ADDR, a breakpoint, a watched byte, or the end
+back [N], back-next       go back by N turns, or one; by one, but over a call
+back-run                  go back to the last breakpoint or watched change
 turn N                    go to the state after N turns from the start
-where                     PC with its label, and its line of the listing
-regs                      the registers, the flags, the DMA address and the user
-mem ADDR [N]              N bytes of memory
-dis ADDR [N]              N instructions
-stack                     the words on top of the stack
-output                    what the program has printed
+where, regs               PC with its line of the listing; registers, DMA, user
+mem ADDR [N]              N bytes of memory, or 16
+dis ADDR [N]              N instructions, or 8
+stack, output             the top of the stack; what the program has printed
 who ADDR                  the last turn that changed this byte
 break ADDR [if REG=VALUE] stop when PC is ADDR, and REG has this value
-watch ADDR [N]            stop at a turn that changes one of N bytes
+watch ADDR [N]            stop at a turn that changes this byte, or one of N
 info                      list the breakpoints and the watched bytes
-delete [ADDR]             forget those at ADDR, or all of them, and list what was forgotten
+delete [ADDR]             forget those at ADDR, or all of them, and list them
 files                     the files of the disk: user, name and records
-help                      this list
-quit                      end the session
-A command may be shortened: a word stands for the first command in this list that begins with it, so s is step,
-b is back, and br is break. ADDR is a label, PC, SP, BC, DE, HL, IX or IY, each also with a number as in TEXT+1
-or SP-2, four hexadecimal digits as they are printed, or a number of the assembler, as 125H or 293. A turn that
-writes the same value does not change a byte.
+help, quit                this list; end the session
+A word may be shortened: it stands for the first command above that begins so:
+s is step, b is back, and br is break. ADDR is a label, or PC, SP, AF, BC, DE,
+HL, IX or IY, each also with a number as in TEXT+1 or SP-2; or four hexadecimal
+digits as they are printed; or a number of the assembler, as 125H or 293. VALUE
+is the same, but no register, so write the byte BC as 0BCH. A turn that writes
+the same value does not change a byte.
 ";
 
 /// A session about one run.
@@ -89,10 +87,9 @@ impl<'a> Session<'a> {
     ghost use Rattle.machine_history.specs.Calls.{call_place};
     ghost use Rattle.machine_history.specs.Stops.{IsLast};
     ghost use Rattle.debugger.specs.Instructions.{WritesCode};
-    ghost use Rattle.debugger.specs.Private.Listing.{ListsStops};
     ghost use Rattle.state_text.specs.Printing.Memory.{memory_text};
     ghost use Rattle.state_text.specs.Printing.Registers.{registers_text};
-    ghost use Rattle.debugger.specs.Text.{Printed, Says, SaysWhere, SaysWho, Watches, breakpoint_line, output_text, stack_text, stops_text, watch_line, where_text};
+    ghost use Rattle.debugger.specs.Text.{Printed, Says, SaysWhere, SaysWho, Watches, breakpoint_line, listed_stops, output_text, stack_text, stops_text, watch_line, where_text};
     ghost use Rattle.machine_history.specs.declared.stops.Stops.{Stops as TheStops};
     ghost use Rattle.debugger.specs.Session.{BackNexts, BackRuns, GoesTo, Obeys, Moves, Nexts, RunsOn, Sets, is_quit};
     ghost use Rattle.machine_history.specs.Walk.{IsTrue_of_run, Shown};
@@ -264,7 +261,10 @@ impl<'a> Session<'a> {
         ensures { IfOk result (λ last. (stops : TheStops) × Watches address stops × IsLast stops self.now.history self.now.history.turn last) }
     {
         let mut stops = Stops::new(self.alloc);
-        stops.watches.push(address)?;
+        stops.watches.push(Watch {
+            from: address,
+            count: 1,
+        })?;
         self.history.last(self.alloc, &stops, self.history.turn())
     }
 
@@ -301,11 +301,20 @@ impl<'a> Session<'a> {
 
     /// PC with its label, and its line of the listing.
     fn place(&self) -> Result<Vec<u8>, AllocError>
-        ensures { IfOk result (λ text. text.items ≡ where_text self.now.labels self.now.listing.now self.now.history.point.state.machine.cpu.pc) }
+        ensures { IfOk result (λ text. text.items ≡ where_text self.now.labels self.now.listing.now self.now.history.point.state.machine.memory self.now.history.point.state.machine.cpu.pc) }
     {
-        let pc = self.history.point().snapshot().cpu().pc;
+        let snapshot = self.history.point().snapshot();
+        let pc = snapshot.cpu().pc;
+        let memory = snapshot.memory();
         let mut text = Vec::new(self.alloc);
-        put_where(self.alloc, &self.labels, self.listing, pc, &mut text)?;
+        put_where(
+            self.alloc,
+            &self.labels,
+            self.listing,
+            memory,
+            pc,
+            &mut text,
+        )?;
         Ok(text)
     }
 
@@ -338,7 +347,7 @@ impl<'a> Session<'a> {
 
     /// The lines of the breakpoints and the watched bytes, for the commands that print them.
     fn listed(&self, command: Command) -> Result<Vec<u8>, AllocError>
-        ensures { IfOk result (λ text. ListsStops command self.now.stops self.now.labels text.items) }
+        ensures { IfOk result (λ text. text.items ≡ listed_stops self.now.labels self.now.stops command) }
     {
         match command {
             Command::Info => self.stop_lines(NOTHING_SET, b"", &self.stops),
@@ -429,7 +438,7 @@ impl<'a> Session<'a> {
         listed: Vec<u8>,
         printed: usize,
     ) -> Result<Vec<u8>, AllocError>
-        ensures { (stops : TheStops) (old : Shown) (before : List ℕ) → ListsStops command stops self.now.labels listed.items → Printed old before → printed ≡ length before
+        ensures { (stops : TheStops) (old : Shown) (before : List ℕ) → listed.items ≡ listed_stops self.now.labels stops command → Printed old before → printed ≡ length before
             → IfOk result (λ text. Says command stops told old self.now.history self.now.labels self.now.listing.now text.items) }
     {
         match command {

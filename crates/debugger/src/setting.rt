@@ -1,29 +1,26 @@
 //! Sets and forgets breakpoints and watched bytes.
 
-ghost use Rattle.std.specs.Prelude.{◌≡◌, ◌++◌, IfOk};
-ghost use Rattle.debugger.specs.Session.{Sets, addresses};
-ghost use Rattle.debugger.specs.Text.{breakpoints_at, is_chosen, watches_at};
+ghost use Rattle.std.specs.Prelude.{◌≡◌, IfOk};
+ghost use Rattle.debugger.specs.Session.{Sets};
+ghost use Rattle.debugger.specs.Text.{breakpoints_at, covers, is_chosen, watches_at};
 
 use debugger_commands::Command;
-use machine_history::Stops;
+use machine_history::{Stops, Watch};
 use state_text::Breakpoint;
 use std::alloc::{AllocError, Global};
 
-/// Adds the addresses of bytes. After FFFFH comes address 0.
-fn watch(watches: &mut Vec<u16>, from: u16, count: u16) -> Result<(), AllocError>
-    ensures { IfOk result (λ _. watches.new.items ≡ watches.old.items ++ addresses from «count») }
+/// Whether something is asked for: that which is there, or that which is not.
+fn is_chosen(there: bool, is_there: bool) -> bool
+    ensures { result ≡ is_chosen there is_there }
 {
-    for offset in 0..count {
-        watches.push(from.wrapping_add(offset))?;
-    }
-    Ok(())
+    is_there == there
 }
 
-/// Whether this is the address, or another one.
-fn is_chosen(address: u16, there: bool, other: u16) -> bool
-    ensures { result ≡ is_chosen address there other }
+/// Whether the byte at an address is one of those of a watch.
+fn covers(address: u16, watch: Watch) -> bool
+    ensures { result ≡ covers address watch }
 {
-    (other == address) == there
+    address.wrapping_sub(watch.from) < watch.count
 }
 
 /// The breakpoints at an address, or those elsewhere.
@@ -37,32 +34,32 @@ fn breakpoints_at(
 {
     let mut found = Vec::new(alloc);
     for breakpoint in breakpoints {
-        if is_chosen(address, there, breakpoint.address) {
+        if is_chosen(there, breakpoint.address == address) {
             found.push(*breakpoint)?;
         }
     }
     Ok(found)
 }
 
-/// The watched bytes at an address, or those elsewhere.
+/// The watches of bytes among which the one at an address is, or those without it.
 fn watches_at(
     alloc: Global,
-    watches: &[u16],
+    watches: &[Watch],
     address: u16,
     there: bool,
-) -> Result<Vec<u16>, AllocError>
+) -> Result<Vec<Watch>, AllocError>
     ensures { IfOk result (λ found. found.items ≡ watches_at address there watches.now) }
 {
     let mut found = Vec::new(alloc);
-    for watched in watches {
-        if is_chosen(address, there, *watched) {
-            found.push(*watched)?;
+    for watch in watches {
+        if is_chosen(there, covers(address, *watch)) {
+            found.push(*watch)?;
         }
     }
     Ok(found)
 }
 
-/// The breakpoints and the watched bytes at an address, or those elsewhere.
+/// The breakpoints at an address and the watches of its byte, or the others.
 pub(crate) fn chosen(
     alloc: Global,
     stops: &Stops,
@@ -84,7 +81,7 @@ pub(crate) fn set(alloc: Global, stops: &mut Stops, command: Command) -> Result<
 {
     match command {
         Command::Break(breakpoint) => stops.breakpoints.push(breakpoint)?,
-        Command::Watch(from, count) => watch(&mut stops.watches, from, count)?,
+        Command::Watch(from, count) => stops.watches.push(Watch { from, count })?,
         Command::Delete(None) => *stops = Stops::new(alloc),
         Command::Delete(Some(address)) => *stops = chosen(alloc, stops, address, false)?,
         _ => {}

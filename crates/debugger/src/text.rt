@@ -1,26 +1,35 @@
 //! What a session prints.
 
-ghost use Rattle.std.specs.Prelude.{◌≡◌, ◌==◌, ◌<◌, ◌++◌, ◌∷◌, [], ℕ, IfOk, List, OnOk, codes, filter, not, option_map, true};
+ghost use Rattle.std.specs.Prelude.{◌≡◌, ◌==◌, ◌≤◌, ◌++◌, ◌∷◌, [], ℕ, IfOk, List, OnOk, codes, filter, length, not, option_map};
 ghost use Rattle.hex.specs.Hex.{encode_upper};
-ghost use Rattle.std.specs.List.{flat_map};
+ghost use Rattle.std.specs.List.{flat_map, position_or_len};
 ghost use Rattle.z80_cpu.specs.State.{machine, up_by};
-ghost use Rattle.debugger.specs.Instructions.{WritesDecoded, WritesCode, WritesInstruction, byte_number, bios_entry_at, instruction_line, decoded_at, instruction_size};
+ghost use Rattle.debugger.specs.Instructions.{WritesDecoded, WritesCode, WritesInstruction, byte_number, bios_entry_at, instruction_line, decoded_at, instruction_size, label_note, relative_note, target_note};
 ghost use Rattle.state_text.specs.Labelled.{label_after, labelled_address};
-ghost use Rattle.debugger.specs.Text.{WritesPoint, breakpoint_line, breakpoint_lines, call_text, change_line, changer_text, condition_after, count_after, follows, listing_text, line_with, outcome_text, output_text, point_line, printed_line, stack_word_line, stack_text, stops_text, unchanged_line, values_text, watch_line, watched_line, watched_lines, where_text, who_text};
+ghost use Rattle.debugger.specs.Text.{WritesPoint, breakpoint_line, breakpoint_lines, call_text, change_line, changer_text, condition_after, listed_columns, count_after, is_as_listed, line_with, listed_digits, listing_note, listing_text, outcome_text, output_text, point_line, printed_line, stack_word_line, stack_text, stops_text, unchanged_line, values_text, watch_line, watch_lines, where_text, who_text};
 
 use crate::session::MOST_TURNS;
 use bstr::ByteSlice;
 use cpm_disk::Disk;
 use cpm_image::MemoryImage;
 use cpm_run::{BDOS, BIOS, bios_entry, is_finished};
-use machine_history::{Change, Hit, Outcome, Point, Snapshot, Stops};
+use machine_history::{Change, Hit, Outcome, Point, Snapshot, Stops, Watch};
 use state_text::{Breakpoint, Condition, Labels, put_characters, put_label, put_word};
 use std::alloc::{AllocError, Global};
-use z80_cpu::{Cpu, Memory};
+use z80_cpu::{Cpu, Memory, displaced};
 use z80_table::{DecodeFault, Instr, decode};
 
 /// The bytes of a name before its type.
 const NAME_BYTES: usize = 8;
+
+/// How many columns of a listing's line are before its bytes.
+const DIGITS_FROM: usize = 6;
+
+/// The most digits of bytes in a listing's line.
+const MOST_DIGITS: usize = 8;
+
+/// What is said of a line of the listing if memory has other bytes.
+const CHANGED_SINCE: &[u8] = b"the bytes here have changed since then: dis PC shows them\n";
 
 /// The instruction at an address, with the number of its bytes. After FFFFH comes address 0.
 fn decoded_at(memory: &Memory, address: u16) -> Result<(Instr, u8), DecodeFault>
@@ -66,17 +75,73 @@ fn put_undocumented(alloc: Global, byte: u8, text: &mut Vec<u8>) -> Result<(), A
     text.extend_from_slice(b"H")
 }
 
-/// The instruction that was read at an address; the byte there if none was read.
+/// Appends the target of a relative jump, whose text has only the distance.
+fn put_relative_note(
+    alloc: Global,
+    labels: &Labels,
+    target: u16,
+    text: &mut Vec<u8>,
+) -> Result<(), AllocError>
+    ensures { OnOk result (text.new.items ≡ text.old.items ++ relative_note labels.now target) }
+{
+    text.extend_from_slice(b" ; ")?;
+    put_address(alloc, labels, target, text)
+}
+
+/// Appends the label of a target, if there is one.
+fn put_label_note(
+    alloc: Global,
+    label: Option<(&[u8], u16)>,
+    text: &mut Vec<u8>,
+) -> Result<(), AllocError>
+    ensures { OnOk result (text.new.items ≡ text.old.items ++ label_note (option_map (λ found. (found.0.now, found.1)) label.entry)) }
+{
+    let Some((name, offset)) = label else {
+        return Ok(());
+    };
+    text.extend_from_slice(b" ; ")?;
+    put_label(alloc, text, name, offset)
+}
+
+/// Appends where a jump or a call goes, given the address of the next instruction.
+fn put_target(
+    alloc: Global,
+    labels: &Labels,
+    next: u16,
+    instr: Instr,
+    text: &mut Vec<u8>,
+) -> Result<(), AllocError>
+    ensures { OnOk result (text.new.items ≡ text.old.items ++ target_note labels.now next instr) }
+{
+    match instr {
+        Instr::JumpRelative(e) => put_relative_note(alloc, labels, displaced(next, e), text),
+        Instr::JumpRelativeIf(_, e) => put_relative_note(alloc, labels, displaced(next, e), text),
+        Instr::Djnz(e) => put_relative_note(alloc, labels, displaced(next, e), text),
+        Instr::Jump(nn) => put_label_note(alloc, labels.find(nn), text),
+        Instr::JumpIf(_, nn) => put_label_note(alloc, labels.find(nn), text),
+        Instr::Call(nn) => put_label_note(alloc, labels.find(nn), text),
+        Instr::CallIf(_, nn) => put_label_note(alloc, labels.find(nn), text),
+        _ => Ok(()),
+    }
+}
+
+/// The instruction that was read at an address, and where it goes; the byte there if none was read.
 fn put_decoded(
     alloc: Global,
+    labels: &Labels,
+    address: u16,
     byte: u8,
     found: Result<(Instr, u8), DecodeFault>,
     text: &mut Vec<u8>,
 ) -> Result<(), AllocError>
-    ensures { OnOk result ((what : List ℕ) × WritesDecoded byte found what × (text.new.items ≡ text.old.items ++ what)) }
+    ensures { OnOk result ((what : List ℕ) × WritesDecoded labels.now address byte found what × (text.new.items ≡ text.old.items ++ what)) }
 {
     match found {
-        Ok((instr, _)) => put_characters(format!(in alloc; "{instr}")?.as_bytes(), text),
+        Ok((instr, size)) => {
+            put_characters(format!(in alloc; "{instr}")?.as_bytes(), text)?;
+            let next = address.wrapping_add(u16::from(size));
+            put_target(alloc, labels, next, instr, text)
+        }
         Err(_) => put_undocumented(alloc, byte, text),
     }
 }
@@ -84,12 +149,13 @@ fn put_decoded(
 /// The system call at an address, with the number of its function or entry; or the instruction.
 fn put_instruction(
     alloc: Global,
+    labels: &Labels,
     cpu: &Cpu,
     memory: &Memory,
     address: u16,
     text: &mut Vec<u8>,
 ) -> Result<(), AllocError>
-    ensures { OnOk result ((what : List ℕ) × WritesInstruction (machine cpu.now memory.now) address what × (text.new.items ≡ text.old.items ++ what)) }
+    ensures { OnOk result ((what : List ℕ) × WritesInstruction labels.now (machine cpu.now memory.now) address what × (text.new.items ≡ text.old.items ++ what)) }
 {
     if address == BDOS {
         let function = cpu.main.c;
@@ -100,6 +166,8 @@ fn put_instruction(
     }
     put_decoded(
         alloc,
+        labels,
+        address,
         memory.get(address),
         decoded_at(memory, address),
         text,
@@ -135,15 +203,20 @@ pub(crate) fn put_address(
 }
 
 /// Why the run has ended, or the instruction at PC.
-fn put_what(alloc: Global, point: &Point<'_>, text: &mut Vec<u8>) -> Result<(), AllocError>
-    ensures { OnOk result ((what : List ℕ) × WritesPoint point.now.end point.now.state.machine what × (text.new.items ≡ text.old.items ++ what)) }
+fn put_what(
+    alloc: Global,
+    labels: &Labels,
+    point: &Point<'_>,
+    text: &mut Vec<u8>,
+) -> Result<(), AllocError>
+    ensures { OnOk result ((what : List ℕ) × WritesPoint point.now.end labels.now point.now.state.machine what × (text.new.items ≡ text.old.items ++ what)) }
 {
     let snapshot = point.snapshot();
     match point.end() {
         Some(why) => text.extend_from_slice(format!(in alloc; "{why}")?.as_bytes()),
         None => {
             let cpu = snapshot.cpu();
-            put_instruction(alloc, cpu, snapshot.memory(), cpu.pc, text)
+            put_instruction(alloc, labels, cpu, snapshot.memory(), cpu.pc, text)
         }
     }
 }
@@ -156,14 +229,14 @@ pub(crate) fn put_point(
     point: &Point<'_>,
     text: &mut Vec<u8>,
 ) -> Result<(), AllocError>
-    ensures { OnOk result ((what : List ℕ) × WritesPoint point.now.end point.now.state.machine what
+    ensures { OnOk result ((what : List ℕ) × WritesPoint point.now.end labels.now point.now.state.machine what
         × (text.new.items ≡ text.old.items ++ point_line labels.now turn point.now.state.machine.cpu.pc what)) }
 {
     let pc = point.snapshot().cpu().pc;
     text.extend_from_slice(format!(in alloc; "turn {turn} at ")?.as_bytes())?;
     put_address(alloc, labels, pc, text)?;
     text.extend_from_slice(b": ")?;
-    put_what(alloc, point, text)?;
+    put_what(alloc, labels, point, text)?;
     text.extend_from_slice(b"\n")
 }
 
@@ -257,7 +330,7 @@ pub(crate) fn put_who(
     }
 }
 
-/// Why a command has stopped before the end of the run, unless it has come to where it was to come.
+/// Why a command has stopped before the end of the run, unless it has reached what it was to reach.
 pub(crate) fn put_outcome(
     alloc: Global,
     labels: &Labels,
@@ -344,54 +417,21 @@ pub(crate) fn put_watch(
     text.extend_from_slice(b"\n")
 }
 
-/// The same after some text, if there are such bytes.
-fn put_watched(
-    alloc: Global,
-    labels: &Labels,
-    before: &[u8],
-    from: u16,
-    count: u16,
-    text: &mut Vec<u8>,
-) -> Result<(), AllocError>
-    ensures { OnOk result (text.new.items ≡ text.old.items ++ watched_line before.now labels.now from count) }
-{
-    if count == 0 {
-        return Ok(());
-    }
-    text.extend_from_slice(before)?;
-    put_watch(alloc, labels, from, count, text)
-}
-
-/// Whether an address follows this many bytes, so that one line can name all of them.
-fn follows(from: u16, count: u16, address: u16) -> bool
-    ensures follows { result ≡ follows from count address }
-    ensures room { result ≡ true → count < 0xFFFF }
-{
-    count > 0 && count < u16::MAX && address == from.wrapping_add(count)
-}
-
-/// The lines of watched bytes, each after some text. Bytes that follow each other share a line.
+/// The lines of watches, each after some text.
 fn put_watches(
     alloc: Global,
     labels: &Labels,
     before: &[u8],
-    watches: &[u16],
+    watches: &[Watch],
     text: &mut Vec<u8>,
 ) -> Result<(), AllocError>
-    ensures { OnOk result (text.new.items ≡ text.old.items ++ watched_lines before.now labels.now 0 0 watches.now) }
+    ensures { OnOk result (text.new.items ≡ text.old.items ++ watch_lines before.now labels.now watches.now) }
 {
-    let mut from = 0;
-    let mut count = 0;
-    for address in watches {
-        if follows(from, count, *address) {
-            count += 1;
-        } else {
-            put_watched(alloc, labels, before, from, count, text)?;
-            from = *address;
-            count = 1;
-        }
+    for watch in watches {
+        text.extend_from_slice(before)?;
+        put_watch(alloc, labels, watch.from, watch.count, text)?;
     }
-    put_watched(alloc, labels, before, from, count, text)
+    Ok(())
 }
 
 /// The lines of breakpoints, each after some text.
@@ -411,7 +451,7 @@ fn put_breakpoints(
     Ok(())
 }
 
-/// The lines of the breakpoints and of the watched bytes, in the order in which they were set, each after some text; or `none`, if there are
+/// The lines of the breakpoints and of the watches, in the order in which they were set, each after some text; or `none`, if there are
 /// none.
 pub(crate) fn put_stops(
     alloc: Global,
@@ -471,12 +511,13 @@ fn put_instruction_line(
     address: u16,
     text: &mut Vec<u8>,
 ) -> Result<(), AllocError>
-    ensures { OnOk result ((what : List ℕ) × WritesInstruction snapshot.now.machine address what
+    ensures { OnOk result ((what : List ℕ) × WritesInstruction labels.now snapshot.now.machine address what
         × (text.new.items ≡ text.old.items ++ instruction_line labels.now address what)) }
 {
     put_address(alloc, labels, address, text)?;
     text.extend_from_slice(b": ")?;
-    put_instruction(alloc, snapshot.cpu(), snapshot.memory(), address, text)?;
+    let cpu = snapshot.cpu();
+    put_instruction(alloc, labels, cpu, snapshot.memory(), address, text)?;
     text.extend_from_slice(b"\n")
 }
 
@@ -593,15 +634,78 @@ fn line_with<'a>(listing: &'a [u8], digits: &[u8]) -> Option<&'a [u8]>
     None
 }
 
-/// Appends a line, if there is one.
-fn put_line(line: Option<&[u8]>, text: &mut Vec<u8>) -> Result<(), AllocError>
-    ensures { OnOk result (text.new.items ≡ text.old.items ++ listing_text (option_map (λ bytes. bytes.now) line.entry)) }
+/// The columns of a listing's line that its bytes are in.
+fn listed_columns(line: &[u8]) -> &[u8]
+    ensures { result.now ≡ listed_columns line.now }
+{
+    let after = line.get(DIGITS_FROM..).unwrap_or(&[]);
+    let (columns, _) = after.split_at(MOST_DIGITS.min(after.len()));
+    columns
+}
+
+/// How many bytes are before the first blank.
+fn unblank_len(columns: &[u8]) -> usize
+    ensures len { result ≡ position_or_len (λ byte. byte == 0x20) columns.now }
+    ensures within { result ≤ length columns.now }
+{
+    columns.iter().take_while(|byte| **byte != b' ').count()
+}
+
+/// The digits of the bytes in a line of a listing.
+fn listed_digits(line: &[u8]) -> &[u8]
+    ensures { result.now ≡ listed_digits line.now }
+{
+    let columns = listed_columns(line);
+    let (digits, _) = columns.split_at(unblank_len(columns));
+    digits
+}
+
+/// Whether the bytes in memory are those in a line of the listing.
+fn is_as_listed(
+    alloc: Global,
+    memory: &Memory,
+    address: u16,
+    line: &[u8],
+) -> Result<bool, AllocError>
+    ensures { IfOk result (λ same. same ≡ is_as_listed memory.now address line.now) }
+{
+    let bytes = [
+        memory.get(address),
+        memory.get(address.wrapping_add(1)),
+        memory.get(address.wrapping_add(2)),
+        memory.get(address.wrapping_add(3)),
+    ];
+    let digits = hex::encode_upper(alloc, &bytes[..])?;
+    Ok(digits.as_bytes().starts_with(listed_digits(line)))
+}
+
+/// Says so if memory has other bytes than a line of the listing.
+fn put_note(is_as_listed: bool, text: &mut Vec<u8>) -> Result<(), AllocError>
+    ensures { OnOk result (text.new.items ≡ text.old.items ++ listing_note is_as_listed) }
+{
+    if is_as_listed {
+        return Ok(());
+    }
+    text.extend_from_slice(CHANGED_SINCE)
+}
+
+/// Appends a line of the listing, if there is one, and says so if memory has other bytes.
+fn put_listed(
+    alloc: Global,
+    memory: &Memory,
+    address: u16,
+    line: Option<&[u8]>,
+    text: &mut Vec<u8>,
+) -> Result<(), AllocError>
+    ensures { OnOk result (text.new.items ≡ text.old.items ++ listing_text memory.now address (option_map (λ bytes. bytes.now) line.entry)) }
 {
     let Some(line) = line else {
         return Ok(());
     };
     text.extend_from_slice(line)?;
-    text.extend_from_slice(b"\n")
+    text.extend_from_slice(b"\n")?;
+    let is_as_listed = is_as_listed(alloc, memory, address, line)?;
+    put_note(is_as_listed, text)
 }
 
 /// An address with its label, and its line of the listing.
@@ -609,14 +713,15 @@ pub(crate) fn put_where(
     alloc: Global,
     labels: &Labels,
     listing: &[u8],
+    memory: &Memory,
     address: u16,
     text: &mut Vec<u8>,
 ) -> Result<(), AllocError>
-    ensures { OnOk result (text.new.items ≡ text.old.items ++ where_text labels.now listing.now address) }
+    ensures { OnOk result (text.new.items ≡ text.old.items ++ where_text labels.now listing.now memory.now address) }
 {
     put_address(alloc, labels, address, text)?;
     text.extend_from_slice(b"\n")?;
     let mut digits = Vec::new(alloc);
     put_word(alloc, &mut digits, address)?;
-    put_line(line_with(listing, &digits), text)
+    put_listed(alloc, memory, address, line_with(listing, &digits), text)
 }

@@ -73,30 +73,41 @@ abbrev pub value_of_pair : Cpu → Option RegisterName → Option ℕ
 value_of_pair cpu (Some register) = if nat_lt 0xFF (register_limit register) then Some (named_register register cpu) else None
 value_of_pair cpu None = None
 
--- PC, or the value of the register of two bytes with this name, in upper or lower case
-abbrev pub address_in_register : Cpu → List ℕ → Option ℕ
-address_in_register cpu word = if str_eq_ignore_ascii_case word (codes "PC") then Some cpu.pc else value_of_pair cpu (register_named word)
+-- PC, or the value of the register of two bytes with this name, in upper or lower case; none if no register may be named
+abbrev pub address_in_register : Option Cpu → List ℕ → Option ℕ
+address_in_register (Some cpu) word = if str_eq_ignore_ascii_case word (codes "PC") then Some cpu.pc else value_of_pair cpu (register_named word)
+address_in_register None word = None
 
 -- the address of a label, otherwise the one in a register
-abbrev pub named_address : Known → Cpu → List ℕ → Option ℕ
-named_address known cpu word = option_or (address_of_label known word) (address_in_register cpu word)
+abbrev pub named_address : Known → Option Cpu → List ℕ → Option ℕ
+named_address known registers word = option_or (address_of_label known word) (address_in_register registers word)
 
 abbrev pub both_found : Option ℕ → Option ℕ → Option (ℕ × ℕ)
 both_found (Some address) (Some offset) = Some (address, offset)
 both_found address offset = None
 
-abbrev pub address_and_offset : Known → Cpu → Option (List ℕ × List ℕ) → Option (ℕ × ℕ)
-address_and_offset known cpu (Some (name, offset)) = both_found (named_address known cpu name) (number_typed offset)
-address_and_offset known cpu None = None
+abbrev pub address_and_offset : Known → Option Cpu → Option (List ℕ × List ℕ) → Option (ℕ × ℕ)
+address_and_offset known registers (Some (name, offset)) = both_found (named_address known registers name) (number_typed offset)
+address_and_offset known registers None = None
 
 -- NAME+N, otherwise NAME-N
-abbrev pub address_near : Known → Cpu → List ℕ → Option ℕ
-address_near known cpu word =
-    option_or (option_map (λ it. up_by it.1 it.0) (address_and_offset known cpu (cut 0x2B word))) (option_map (λ it. down_by it.1 it.0) (address_and_offset known cpu (cut 0x2D word)))
+abbrev pub address_near : Known → Option Cpu → List ℕ → Option ℕ
+address_near known registers word =
+    option_or (option_map (λ it. up_by it.1 it.0) (address_and_offset known registers (cut 0x2B word)))
+    (option_map (λ it. down_by it.1 it.0) (address_and_offset known registers (cut 0x2D word)))
 
 -- a label or a register, otherwise four digits, otherwise a label or a register and a number, otherwise a number
+abbrev pub address_or_value : Known → Option Cpu → List ℕ → Option ℕ
+address_or_value known registers word = option_or (named_address known registers word) (option_or (printed_address word) (option_or (address_near known registers word) (number_typed word)))
+
 abbrev pub typed_address : Known → Cpu → List ℕ → Option ℕ
-typed_address known cpu word = option_or (named_address known cpu word) (option_or (printed_address word) (option_or (address_near known cpu word) (number_typed word)))
+typed_address known cpu word = address_or_value known (Some cpu) word
+
+-- ---- VALUE
+
+-- The same without registers, since the names of many are hexadecimal digits: in `A=BC` the byte 0BCH may be meant.
+abbrev pub typed_value : Known → List ℕ → Option ℕ
+typed_value known word = address_or_value known None word
 
 -- ---- the names of the commands
 
@@ -215,23 +226,28 @@ address_and_number known cpu it default (word ∷ []) = both_read (address known
 address_and_number known cpu it default (word ∷ count ∷ []) = both_read (address known cpu word) (typed_number count)
 address_and_number known cpu it default other = Err (usage it)
 
+-- a watch, which is of at least one byte
+abbrev pub watch : Reading (ℕ × ℕ) → Reading Command
+watch (Ok (from, count)) = if count == 0 then Err (verb_name verb.Watch, refusal.NoBytes) else Ok (command.Watch from count)
+watch (Err why) = Err why
+
 -- a value that fits into its register
 abbrev pub fitting_value : List ℕ → Reading (RegisterName × ℕ) → Reading Condition
 fitting_value word (Ok (register, value)) = if nat_le value (register_limit register) then Ok (record { register = register; value = value }) else Err (word, refusal.OneByte)
 fitting_value word (Err why) = Err why
 
-abbrev pub register_and_value : Known → Cpu → List ℕ → Option (List ℕ × List ℕ) → Reading Condition
-register_and_value known cpu word (Some (register, value)) =
-    fitting_value word (both_read (ok_or (register_named register) (word, refusal.Register)) (ok_or (typed_address known cpu value) (word, refusal.Value)))
-register_and_value known cpu word None = Err (usage verb.Break)
+abbrev pub register_and_value : Known → List ℕ → Option (List ℕ × List ℕ) → Reading Condition
+register_and_value known word (Some (register, value)) =
+    fitting_value word (both_read (ok_or (register_named register) (word, refusal.Register)) (ok_or (typed_value known value) (word, refusal.Value)))
+register_and_value known word None = Err (usage verb.Break)
 
 -- REG=VALUE
-abbrev pub typed_condition : Known → Cpu → List ℕ → Reading Condition
-typed_condition known cpu word = register_and_value known cpu word (cut 0x3D word)
+abbrev pub typed_condition : Known → List ℕ → Reading Condition
+typed_condition known word = register_and_value known word (cut 0x3D word)
 
 -- ADDR if REG=VALUE
 abbrev pub conditional_breakpoint : Known → Cpu → List ℕ → List ℕ → Reading Breakpoint
-conditional_breakpoint known cpu word test = read_as (λ it. record { address = it.0; condition = Some it.1 }) (both_read (address known cpu word) (typed_condition known cpu test))
+conditional_breakpoint known cpu word test = read_as (λ it. record { address = it.0; condition = Some it.1 }) (both_read (address known cpu word) (typed_condition known test))
 
 -- ADDR [if REG=VALUE]
 abbrev pub breakpoint : Known → Cpu → List (List ℕ) → Reading Breakpoint
@@ -259,7 +275,7 @@ typed_as known cpu verb.Finish words = no_arguments verb.Finish command.Finish w
 typed_as known cpu verb.BackRun words = no_arguments verb.BackRun command.BackRun words
 typed_as known cpu verb.BackNext words = no_arguments verb.BackNext command.BackNext words
 typed_as known cpu verb.Break words = read_as command.Break (breakpoint known cpu words)
-typed_as known cpu verb.Watch words = read_as (λ at. command.Watch at.0 at.1) (address_and_number known cpu verb.Watch 1 words)
+typed_as known cpu verb.Watch words = watch (address_and_number known cpu verb.Watch 1 words)
 typed_as known cpu verb.Delete words = read_as command.Delete (some_address known cpu verb.Delete words)
 typed_as known cpu verb.Info words = info words
 typed_as known cpu verb.Registers words = no_arguments verb.Registers command.Registers words
@@ -302,6 +318,7 @@ refusal_line (word, refusal.Usage it) = usage_line it
 refusal_line (word, refusal.Address) = shown_word word ++ codes ": not a label or an address, such as START+5, HL, 0125 or 125H\n"
 refusal_line (word, refusal.Turns) = shown_word word ++ codes ": not a decimal number up to 18446744073709551615\n"
 refusal_line (word, refusal.Number) = shown_word word ++ codes ": not a number up to 65535\n"
+refusal_line (word, refusal.NoBytes) = shown_word word ++ codes ": at least one byte has to be watched\n"
 refusal_line (word, refusal.Register) = shown_word word ++ codes ": no register before =\n"
-refusal_line (word, refusal.Value) = shown_word word ++ codes ": no label or address after =\n"
+refusal_line (word, refusal.Value) = shown_word word ++ codes ": after = comes a number, as 188 or 0BCH, or a label, as START+5, but no register\n"
 refusal_line (word, refusal.OneByte) = shown_word word ++ codes ": a register of one byte, so the value is at most 255\n"

@@ -1,7 +1,7 @@
 //! The commands of a session.
 
 ghost use Rattle.std.specs.Prelude.{◌≡◌, IfOk, Ok, map};
-ghost use Rattle.debugger_commands.specs.Typed.{address, address_and_number, no_arguments, breakpoint, typed_condition, conditional_breakpoint, fitting_value, info, is_listed, line_meaning, typed_number, one_address, read_as, shown_reading, some_address, typed_turns, typed_as, usage};
+ghost use Rattle.debugger_commands.specs.Typed.{address, address_and_number, no_arguments, breakpoint, typed_condition, conditional_breakpoint, fitting_value, info, is_listed, line_meaning, typed_number, one_address, read_as, shown_reading, some_address, typed_turns, typed_as, usage, watch};
 ghost use Rattle.debugger_commands.specs.declared.command.Command.TheVariants as command;
 ghost use Rattle.debugger_commands.specs.declared.verb.Verb.TheVariants as verb;
 
@@ -140,7 +140,7 @@ fn address<'a>(
 ) -> Result<Reading<'a, u16>, AllocError>
     ensures { IfOk result (λ read. shown_reading read ≡ address labels.now cpu.now word.now) }
 {
-    match address_of(alloc, labels, cpu, word)? {
+    match address_of(alloc, labels, Some(cpu), word)? {
         Some(address) => Ok(Ok(address)),
         None => Ok(Err((word, Refusal::Address))),
     }
@@ -237,10 +237,9 @@ fn fitting<'a>(word: &'a [u8], register: RegisterName, value: u16) -> Reading<'a
 fn condition<'a>(
     alloc: Global,
     labels: &Labels,
-    cpu: &Cpu,
     word: &'a [u8],
 ) -> Result<Reading<'a, Condition>, AllocError>
-    ensures { IfOk result (λ read. shown_reading read ≡ typed_condition labels.now cpu.now word.now) }
+    ensures { IfOk result (λ read. shown_reading read ≡ typed_condition labels.now word.now) }
 {
     let Some((name, value)) = cut(word, b'=') else {
         return Ok(Err(usage(Verb::Break)));
@@ -248,7 +247,7 @@ fn condition<'a>(
     let Some(register) = register_named(name) else {
         return Ok(Err((word, Refusal::Register)));
     };
-    match address_of(alloc, labels, cpu, value)? {
+    match address_of(alloc, labels, None, value)? {
         Some(value) => Ok(fitting(word, register, value)),
         None => Ok(Err((word, Refusal::Value))),
     }
@@ -268,7 +267,7 @@ fn conditional<'a>(
         Ok(address) => address,
         Err(why) => return Ok(Err(why)),
     };
-    match condition(alloc, labels, cpu, test)? {
+    match condition(alloc, labels, test)? {
         Ok(condition) => Ok(Ok(Breakpoint {
             address,
             condition: Some(condition),
@@ -382,6 +381,16 @@ fn break_at<'a>(
     }
 }
 
+/// A watch, which is of at least one byte.
+fn watch_of<'a>(from: u16, count: u16) -> Reading<'a, Command>
+    ensures { shown_reading result ≡ watch (Ok (from, count)) }
+{
+    if count == 0 {
+        return Err((Verb::Watch.name(), Refusal::NoBytes));
+    }
+    Ok(Command::Watch(from, count))
+}
+
 /// `watch ADDR [N]`
 fn watch<'a>(
     alloc: Global,
@@ -392,7 +401,7 @@ fn watch<'a>(
     ensures { IfOk result (λ read. shown_reading read ≡ typed_as labels.now cpu.now verb.Watch (map (λ w. w.now) words.now)) }
 {
     match address_and_number(alloc, labels, cpu, Verb::Watch, 1, words)? {
-        Ok((from, count)) => Ok(Ok(Command::Watch(from, count))),
+        Ok((from, count)) => Ok(watch_of(from, count)),
         Err(why) => Ok(Err(why)),
     }
 }

@@ -20,6 +20,8 @@ pub enum Refusal {
     Turns,
     /// The word is not a number of bytes or instructions.
     Number,
+    /// A watch is of no byte.
+    NoBytes,
     /// No register is before the `=` of a condition.
     Register,
     /// No value is after the `=` of a condition.
@@ -70,8 +72,13 @@ pub fn refusal_line(alloc: Global, refused: Refused<'_>) -> Result<Vec<u8>, Allo
             b": not a decimal number up to 18446744073709551615\n",
         ),
         Refusal::Number => named(alloc, word, b": not a number up to 65535\n"),
+        Refusal::NoBytes => named(alloc, word, b": at least one byte has to be watched\n"),
         Refusal::Register => named(alloc, word, b": no register before =\n"),
-        Refusal::Value => named(alloc, word, b": no label or address after =\n"),
+        Refusal::Value => named(
+            alloc,
+            word,
+            b": after = comes a number, as 188 or 0BCH, or a label, as START+5, but no register\n",
+        ),
         Refusal::OneByte => named(
             alloc,
             word,

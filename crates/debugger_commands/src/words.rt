@@ -5,7 +5,7 @@ ghost use Rattle.std.specs.Char.{is_ascii_whitespace};
 ghost use Rattle.std.specs.List.{position, position_or_len, slice_split};
 ghost use Rattle.std.specs.Option.{IfSome};
 ghost use Rattle.asm_scan.specs.Tokens.{lexemes};
-ghost use Rattle.debugger_commands.specs.Typed.{address_and_offset, address_in_register, address_near, cut, is_typed_word, line_words, named_address, number_typed, one_number, printed_address, turns_of, typed_address};
+ghost use Rattle.debugger_commands.specs.Typed.{address_and_offset, address_in_register, address_near, address_or_value, cut, is_typed_word, line_words, named_address, number_typed, one_number, printed_address, turns_of};
 ghost use Rattle.debugger_commands.specs.Private.Parts.{parts_left};
 
 use asm_scan::{Kind, ScanFault, Token, tokens};
@@ -129,10 +129,11 @@ fn printed_address(word: &[u8]) -> Option<u16>
     u16::from_str_radix(digits, 16).ok()
 }
 
-/// PC, or the value of the register of two bytes with this name.
-fn address_in_register(cpu: &Cpu, word: &[u8]) -> Option<u16>
-    ensures { result ≡ address_in_register cpu.now word.now }
+/// PC, or the value of the register of two bytes with this name; `None` if no register may be named.
+fn address_in_register(registers: Option<&Cpu>, word: &[u8]) -> Option<u16>
+    ensures { result ≡ address_in_register (option_map (λ cpu. cpu.now) registers.entry) word.now }
 {
+    let cpu = registers?;
     if is_same_name(word, b"PC") {
         return Some(cpu.pc);
     }
@@ -145,12 +146,12 @@ fn address_in_register(cpu: &Cpu, word: &[u8]) -> Option<u16>
 }
 
 /// The address of a label, or the one in a register.
-fn named_address(labels: &Labels, cpu: &Cpu, word: &[u8]) -> Option<u16>
-    ensures { result ≡ named_address labels.now cpu.now word.now }
+fn named_address(labels: &Labels, registers: Option<&Cpu>, word: &[u8]) -> Option<u16>
+    ensures { result ≡ named_address labels.now (option_map (λ cpu. cpu.now) registers.entry) word.now }
 {
     match labels.address_of(word) {
         Some(address) => Some(address),
-        None => address_in_register(cpu, word),
+        None => address_in_register(registers, word),
     }
 }
 
@@ -158,16 +159,16 @@ fn named_address(labels: &Labels, cpu: &Cpu, word: &[u8]) -> Option<u16>
 fn address_and_offset(
     alloc: Global,
     labels: &Labels,
-    cpu: &Cpu,
+    registers: Option<&Cpu>,
     word: &[u8],
     sign: u8,
 ) -> Result<Option<(u16, u16)>, AllocError>
-    ensures { IfOk result (λ parts. parts ≡ address_and_offset labels.now cpu.now (cut «sign» word.now)) }
+    ensures { IfOk result (λ parts. parts ≡ address_and_offset labels.now (option_map (λ cpu. cpu.now) registers.entry) (cut «sign» word.now)) }
 {
     let Some((name, offset)) = cut(word, sign) else {
         return Ok(None);
     };
-    let Some(address) = named_address(labels, cpu, name) else {
+    let Some(address) = named_address(labels, registers, name) else {
         return Ok(None);
     };
     match number_of(alloc, offset)? {
@@ -180,37 +181,37 @@ fn address_and_offset(
 fn address_near(
     alloc: Global,
     labels: &Labels,
-    cpu: &Cpu,
+    registers: Option<&Cpu>,
     word: &[u8],
 ) -> Result<Option<u16>, AllocError>
-    ensures { IfOk result (λ address. address ≡ address_near labels.now cpu.now word.now) }
+    ensures { IfOk result (λ address. address ≡ address_near labels.now (option_map (λ cpu. cpu.now) registers.entry) word.now) }
 {
-    if let Some((address, offset)) = address_and_offset(alloc, labels, cpu, word, b'+')? {
+    if let Some((address, offset)) = address_and_offset(alloc, labels, registers, word, b'+')? {
         return Ok(Some(address.wrapping_add(offset)));
     }
-    match address_and_offset(alloc, labels, cpu, word, b'-')? {
+    match address_and_offset(alloc, labels, registers, word, b'-')? {
         Some((address, offset)) => Ok(Some(address.wrapping_sub(offset))),
         None => Ok(None),
     }
 }
 
 /// The address that a word is: a label, a register of two bytes, an address as the answers print it, a name with a number, or a number of
-/// the assembler.
+/// the assembler. Without registers it is the value of a condition.
 pub(crate) fn address_of(
     alloc: Global,
     labels: &Labels,
-    cpu: &Cpu,
+    registers: Option<&Cpu>,
     word: &[u8],
 ) -> Result<Option<u16>, AllocError>
-    ensures { IfOk result (λ address. address ≡ typed_address labels.now cpu.now word.now) }
+    ensures { IfOk result (λ address. address ≡ address_or_value labels.now (option_map (λ cpu. cpu.now) registers.entry) word.now) }
 {
-    if let Some(address) = named_address(labels, cpu, word) {
+    if let Some(address) = named_address(labels, registers, word) {
         return Ok(Some(address));
     }
     if let Some(address) = printed_address(word) {
         return Ok(Some(address));
     }
-    match address_near(alloc, labels, cpu, word)? {
+    match address_near(alloc, labels, registers, word)? {
         Some(address) => Ok(Some(address)),
         None => number_of(alloc, word),
     }

@@ -8,6 +8,9 @@ use row_text::Row;
 /// Prints a command and its answer.
 fn answer_command(row: &mut Row, session: &mut Session, program: Debugged<'_>, command: &str) {
     write!(row, "> {command}\n");
+    if command.starts_with("listing ") {
+        return;
+    }
     if let Some(turns) = command.strip_prefix("walk ") {
         walk(row, program, turns);
         return;
@@ -16,6 +19,11 @@ fn answer_command(row: &mut Row, session: &mut Session, program: Debugged<'_>, c
         Ok(text) => row.write_bytes(&text),
         Err(_) => row.refuse("no memory"),
     }
+}
+
+/// The line of a listing that a command gives, if it gives one.
+fn listing_of(command: Option<&String>) -> Option<&str> {
+    command?.as_str().strip_prefix("listing ")
 }
 
 /// Prints the commands and their answers.
@@ -33,7 +41,8 @@ fn answer_commands(row: &mut Row, program: Debugged<'_>, labels: &str, commands:
         row.refuse("no memory");
         return;
     };
-    let mut session = Session::new(alloc, history, labels);
+    let listing = listing_of(commands.first()).unwrap_or("");
+    let mut session = Session::new(alloc, history, labels).with_listing(listing.as_bytes());
     for command in commands {
         answer_command(row, &mut session, program, command.as_str());
     }

@@ -1,5 +1,6 @@
 -- Breakpoints and watched bytes, and the turns at which they hold.
-use Rattle.std.specs.Prelude.{◌≡◌, ◌+◌, ◌%◌, ◌==◌, ◌&&◌, ◌||◌, ℕ, Bool, false, true, not, List, Option, Some, None, find, if◌then◌else◌, is_some, nat_le, nat_lt, option_map}
+use Rattle.std.specs.Prelude.{◌≡◌, ◌+◌, ◌%◌, ◌==◌, ◌&&◌, ◌||◌, ℕ, Bool, false, true, not, List, Option, Some, None, find, if◌then◌else◌, is_some, map, nat_le, nat_lt, option_map}
+use Rattle.std.specs.List.{flat_map, range_with_len}
 use Rattle.std.specs.Option.{option_or}
 use Rattle.cpm_run.specs.Turns.{Place, place_at_pc}
 use Rattle.cpm_run.specs.declared.ending.Why.{Why}
@@ -15,6 +16,7 @@ use Rattle.machine_history.specs.declared.stops.Goal.TheVariants as goal
 use Rattle.machine_history.specs.declared.stops.Hit.{Hit}
 use Rattle.machine_history.specs.declared.stops.Hit.TheVariants as hit
 use Rattle.machine_history.specs.declared.stops.Stops.{Stops}
+use Rattle.machine_history.specs.declared.stops.Watch.{Watch}
 use Rattle.machine_history.specs.Walk.{IsNextPoint, LeadsBy, Point, MemoryState, Shown, first_point, never}
 
 abbrev pub condition_is_met : Option Condition → Cpu → Bool
@@ -28,6 +30,14 @@ breaks cpu breakpoint = (cpu.pc == breakpoint.address) && condition_is_met break
 -- A watched byte holds at a turn that changes it. A turn that writes the value that was there already does not count.
 abbrev pub changes_byte : List ℕ → List ℕ → ℕ → Bool
 changes_byte old new address = not (byte_at address new == byte_at address old)
+
+-- the addresses of the bytes of a watch; after FFFFH comes address 0
+abbrev pub addresses : Watch → List ℕ
+addresses watch = map (λ offset. up_by offset watch.from) (range_with_len 0 watch.count)
+
+-- the addresses of all watched bytes, in the order in which the watches were set
+abbrev pub watched_addresses : List Watch → List ℕ
+watched_addresses watches = flat_map addresses watches
 
 -- ---- returns
 
@@ -68,13 +78,13 @@ change_of old new by function address = record { address = address; before = byt
 
 -- the first of these bytes that a turn has changed
 abbrev pub changed : List ℕ → List ℕ → ℕ → ℕ → List ℕ → Option Change
-changed old new by function watches = option_map (change_of old new by function) (find (changes_byte old new) watches)
+changed old new by function watched = option_map (change_of old new by function) (find (changes_byte old new) watched)
 
 -- What holds at a turn, by the states before and after it: a breakpoint, otherwise a watched byte, otherwise the goal of the command.
 abbrev pub hit_at : Option Goal → Stops → MemoryState → MemoryState → Option Hit
 hit_at goal stops old new =
     option_or (broken new.machine.cpu stops.breakpoints.items)
-    (option_or (option_map hit.Changed (changed old.machine.memory new.machine.memory old.machine.cpu.pc old.machine.cpu.main.c stops.watches.items))
+    (option_or (option_map hit.Changed (changed old.machine.memory new.machine.memory old.machine.cpu.pc old.machine.cpu.main.c (watched_addresses stops.watches.items)))
     (if is_reached goal (sp_returned old) new.machine.cpu then Some hit.Goal else None))
 
 -- the turns at which something holds

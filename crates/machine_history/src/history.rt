@@ -7,7 +7,7 @@ use crate::calls::{open_call, shown_place};
 use crate::kept::Keeper;
 use crate::point::Point;
 use crate::snapshot::Snapshot;
-use crate::stops::{Goal, Hit, Stops};
+use crate::stops::{Goal, Hit, Stops, watched_addresses};
 use cpm_console::MemoryConsole;
 use cpm_disk::Disk;
 use cpm_image::MemoryImage;
@@ -70,7 +70,7 @@ impl<'a> History<'a> {
     ghost use Rattle.std.specs.Prelude.{◌≡◌, ◌+◌, ◌-◌, ◌<◌, ◌≤◌, ◌^◌, Err, IfErr, IfOk, None, OnErr, false, map, true};
     ghost use Rattle.cpm_run.specs.Start.{IsStart};
     ghost use Rattle.machine_history.specs.Calls.{IsCallBefore, shown_place};
-    ghost use Rattle.machine_history.specs.Stops.{IsLast, end_at, hit_at};
+    ghost use Rattle.machine_history.specs.Stops.{IsLast, end_at, hit_at, watched_addresses};
     ghost use Rattle.machine_history.specs.Walk.{IsAfter, IsNextPoint, IsTrue_of_run};
     ghost use Rattle.machine_history.specs.Going.{IsFirstShown, MakesTurns, RanUntil, ShowsTurn};
 
@@ -130,13 +130,16 @@ impl<'a> History<'a> {
         self.kept.keep(alloc, self.turn, &self.point);
     }
 
-    /// Makes one turn, and answers what holds at it: a breakpoint, a watched byte, or the goal.
+    /// Makes one turn, and answers what holds at it: a breakpoint, a watched byte, or the goal. `watched` has the addresses of the watched
+    /// bytes.
     fn step(
         &mut self,
         alloc: Global,
         goal: Option<Goal>,
         stops: &Stops,
+        watched: &[u16],
     ) -> Result<Option<Hit>, AllocError>
+        requires watched { watched.now ≡ watched_addresses stops.now.watches.items }
         requires going { self.old.point.end ≡ None }
         requires room { self.old.turn < 2 ^ 64 - 1 }
         ensures start { self.new.start ≡ self.old.start }
@@ -145,7 +148,7 @@ impl<'a> History<'a> {
         ensures held { IfOk result (λ held. held ≡ hit_at goal stops.now self.old.point.state self.new.point.state) }
         ensures stopped { OnErr result (self.new ≡ self.old) }
     {
-        let held = stops.advance(alloc, goal, &mut self.point)?;
+        let held = stops.advance(alloc, goal, watched, &mut self.point)?;
         self.turn += 1;
         self.kept.keep(alloc, self.turn, &self.point);
         Ok(held)
@@ -240,6 +243,7 @@ impl<'a> History<'a> {
         requires { turn ≤ self.now.turn }
         ensures { IfOk result (IsLast stops.now self.now turn) }
     {
+        let watched = watched_addresses(alloc, &stops.watches)?;
         let mut point = Point::first(self.start.copied(alloc)?);
         let mut last = None;
         for number in 0..turn {
@@ -247,7 +251,7 @@ impl<'a> History<'a> {
             if point.end().is_some() {
                 return Err(AllocError);
             }
-            let held = stops.advance(alloc, None, &mut point)?;
+            let held = stops.advance(alloc, None, &watched, &mut point)?;
             last = later(last, held, number);
         }
         if self.ends_so(turn, &point) {
@@ -300,11 +304,12 @@ impl<'a> History<'a> {
         ensures stopped { OnErr result (MakesTurns goal stops.now limit self.old self.new) }
     {
         let _ = &self.start;
+        let watched = watched_addresses(alloc, &stops.watches)?;
         for _ in 0..limit {
             if self.point.end().is_some() {
                 return Ok(Outcome::Ended);
             }
-            if let Some(hit) = self.step(alloc, goal, stops)? {
+            if let Some(hit) = self.step(alloc, goal, stops, &watched)? {
                 return Ok(Outcome::Held(hit));
             }
         }

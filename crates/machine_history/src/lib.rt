@@ -16,4 +16,4 @@ pub use calls::{ReturnPlace, call_place};
 pub use history::{History, Outcome};
 pub use point::Point;
 pub use snapshot::Snapshot;
-pub use stops::{Change, Goal, Hit, Stops};
+pub use stops::{Change, Goal, Hit, Stops, Watch};

@@ -1,11 +1,11 @@
 //! Breakpoints and watched bytes.
 
-ghost use Rattle.std.specs.Prelude.{◌≡◌, ℕ, IfOk, List, None, Some, if◌then◌else◌, length, map, option_map};
+ghost use Rattle.std.specs.Prelude.{◌≡◌, ◌++◌, ℕ, IfOk, List, None, Some, if◌then◌else◌, length, map, option_map};
 ghost use Rattle.std.specs.Option.{option_or};
 ghost use Rattle.cpm_run.specs.Turns.{place_at_pc};
 ghost use Rattle.z80_cpu.specs.State.{byte_at};
 ghost use Rattle.z80_cpu.specs.declared.registers.Cpu.{Cpu as TheCpu};
-ghost use Rattle.machine_history.specs.Stops.{breaks, broken, changed, condition_is_met, has_returned, is_reached, is_return_code, may_return, sp_returned};
+ghost use Rattle.machine_history.specs.Stops.{addresses, breaks, broken, changed, condition_is_met, has_returned, is_reached, is_return_code, may_return, sp_returned, watched_addresses};
 ghost use Rattle.machine_history.specs.declared.stops.Hit.TheVariants as hit;
 
 use crate::calls::is_of_system;
@@ -189,16 +189,44 @@ fn first_of(broken: Option<Hit>, change: Option<Change>, is_reached: bool) -> Op
     }
 }
 
+/// Bytes that are watched, by the address of the first one. After FFFFH comes address 0.
+#[derive(Clone, Copy, Debug, PartialEq, Eq)]
+pub struct Watch {
+    pub from: u16,
+    pub count: u16,
+}
+
+/// Adds the addresses of the bytes of a watch.
+fn push_addresses(found: &mut Vec<u16>, watch: Watch) -> Result<(), AllocError>
+    ensures { IfOk result (λ _. found.new.items ≡ found.old.items ++ addresses watch) }
+{
+    for offset in 0..watch.count {
+        found.push(watch.from.wrapping_add(offset))?;
+    }
+    Ok(())
+}
+
+/// The addresses of all watched bytes.
+pub(crate) fn watched_addresses(alloc: Global, watches: &[Watch]) -> Result<Vec<u16>, AllocError>
+    ensures { IfOk result (λ found. found.items ≡ watched_addresses watches.now) }
+{
+    let mut found = Vec::new(alloc);
+    for watch in watches {
+        push_addresses(&mut found, *watch)?;
+    }
+    Ok(found)
+}
+
 /// Where a run is to stop: at breakpoints, and at turns that change a watched byte.
 #[derive(Drop)]
 pub struct Stops {
     pub breakpoints: Vec<Breakpoint>,
-    pub watches: Vec<u16>,
+    pub watches: Vec<Watch>,
 }
 
 impl Stops {
     ghost use Rattle.std.specs.Prelude.{◌≡◌, ◌-◌, ◌<◌, ◌^◌, [], None, IfOk, OnErr};
-    ghost use Rattle.machine_history.specs.Stops.{hit_at};
+    ghost use Rattle.machine_history.specs.Stops.{hit_at, watched_addresses};
     ghost use Rattle.machine_history.specs.Walk.{IsNextPoint};
 
     /// No breakpoints, and no watched bytes.
@@ -212,7 +240,8 @@ impl Stops {
         }
     }
 
-    /// Makes one turn, and answers what holds at it: a breakpoint, a watched byte, or the goal.
+    /// Makes one turn, and answers what holds at it: a breakpoint, a watched byte, or the goal. `watched` has the addresses of the watched
+    /// bytes, so that they are not counted out at each turn.
     ///
     /// # Errors
     ///
@@ -221,22 +250,24 @@ impl Stops {
         &self,
         alloc: Global,
         goal: Option<Goal>,
+        watched: &[u16],
         point: &mut Point<'_>,
     ) -> Result<Option<Hit>, AllocError>
+        requires watched { watched.now ≡ watched_addresses self.now.watches.items }
         requires going { point.old.end ≡ None }
         requires room { point.old.state.turns < 2 ^ 64 - 1 }
         ensures next { IfOk result (λ _. IsNextPoint point.old point.new) }
         ensures held { IfOk result (λ held. held ≡ hit_at goal self.now point.old.state point.new.state) }
         ensures kept { OnErr result (point.new ≡ point.old) }
     {
-        let bytes = bytes_at(alloc, &self.watches, point.snapshot().memory())?;
+        let bytes = bytes_at(alloc, watched, point.snapshot().memory())?;
         let returned = return_for(goal, point.snapshot());
         let by = point.snapshot().cpu().pc;
         let function = point.snapshot().cpu().main.c;
         point.advance(alloc);
         let snapshot = point.snapshot();
         let cpu = snapshot.cpu();
-        let change = changed(&self.watches, &bytes, snapshot.memory(), by, function);
+        let change = changed(watched, &bytes, snapshot.memory(), by, function);
         Ok(first_of(
             broken(&self.breakpoints, cpu),
             change,

@@ -1,7 +1,44 @@
-use Rattle.std.proofs.Common.{refl}
+use Rattle.std.proofs.Common.{◌∷◌, [], List, codes, refl, ℕ}
 use Rattle.bstr.specs.Text.{line_len, lines_from}
+use Rattle.debugger_commands.specs.declared.verb.Verb.{Verb}
+use Rattle.debugger_commands.specs.declared.verb.Verb.TheVariants as verb
 use Rattle.debugger.proofs.laws.help_is_in_order.Goals as goal
 
-pub returns : goal.returns
+entries : List (List Verb × List ℕ)
+entries =
+    (verb.Step ∷ verb.Next ∷ [], codes "make N turns, or one; one turn, but over a whole call") ∷
+    (verb.Finish ∷ [], codes "to the first return after which SP is higher") ∷
+    (verb.Run ∷ [], codes "to ADDR, a breakpoint, a watched byte, or the end") ∷
+    (verb.Back ∷ verb.BackNext ∷ [], codes "go back by N turns, or one; by one, but over a call") ∷
+    (verb.BackRun ∷ [], codes "go back to the last breakpoint or watched change") ∷
+    (verb.Turn ∷ [], codes "go to the state after N turns from the start") ∷
+    (verb.Where ∷ verb.Registers ∷ [], codes "PC with its line of the listing; registers, DMA, user") ∷
+    (verb.Memory ∷ [], codes "N bytes of memory, or 16") ∷
+    (verb.Disassemble ∷ [], codes "N instructions, or 8") ∷
+    (verb.Stack ∷ verb.Output ∷ [], codes "the top of the stack; what the program has printed") ∷
+    (verb.Who ∷ [], codes "the last turn that changed this byte") ∷
+    (verb.Break ∷ [], codes "stop when PC is ADDR, and REG has this value") ∷
+    (verb.Watch ∷ [], codes "stop at a turn that changes this byte, or one of N") ∷
+    (verb.Info ∷ [], codes "list the breakpoints and the watched bytes") ∷
+    (verb.Delete ∷ [], codes "forget those at ADDR, or all of them, and list them") ∷
+    (verb.Files ∷ [], codes "the files of the disk: user, name and records") ∷
+    (verb.Help ∷ verb.Quit ∷ [], codes "this list; end the session") ∷
+    []
+
+notes : List (List ℕ)
+notes =
+    codes "A word may be shortened: it stands for the first command above that begins so:" ∷
+    codes "s is step, b is back, and br is break. ADDR is a label, or PC, SP, AF, BC, DE," ∷
+    codes "HL, IX or IY, each also with a number as in TEXT+1 or SP-2; or four hexadecimal" ∷
+    codes "digits as they are printed; or a number of the assembler, as 125H or 293. VALUE" ∷
+    codes "is the same, but no register, so write the byte BC as 0BCH. A turn that writes" ∷
+    codes "the same value does not change a byte." ∷
+    []
+
+pub returns-clause-order : goal.returns-clause-order
+unfolding entries notes
+returns-clause-order c = (entries, notes, refl, refl, refl, refl)
+
+pub returns-clause-fits : goal.returns-clause-fits
 unfolding line_len lines_from
-returns c = (refl, (refl, (refl, (refl, (refl, (refl, (refl, (refl, (refl, (refl, (refl, (refl, (refl, (refl, (refl, (refl, (refl, (refl, (refl, (refl, (refl, (refl, tt))))))))))))))))))))))
+returns-clause-fits c = (refl, refl)

@@ -36,4 +36,10 @@ returns-in_err-hit-clause-stopped c =
     let same = c.in_err-hit.ensures.stopped in
     let turn = ap (λ (h : Shown). h.turn) same ∙ c.loop.invariant.turn in
     let leads = subst (λ (p : Point). LeadsBy (holds c.args.goal c.args.stops.now) c.loop.counter c.args.self.now.point p) (sym (ap (λ (h : Shown). h.point) same)) c.loop.invariant.leads in
-    on_err c.from_residual.result (c.loop.counter, omega (arith, c.loop-test.true), turn, leads)
+    on_err c.from_residual-in_err-hit.result (c.loop.counter, omega (arith, c.loop-test.true), turn, leads)
+
+pub returns-in_err-watched-clause-after : goal.returns-in_err-watched-clause-after
+returns-in_err-watched-clause-after c = subst (λ (h : Shown). IsTrue_of_run h) c.self.view_is c.self.invariant.now_is
+
+pub returns-in_err-watched-clause-stopped : goal.returns-in_err-watched-clause-stopped
+returns-in_err-watched-clause-stopped c = on_err c.from_residual.result (0, omega arith, omega arith, none c.args.self.now.point)

@@ -11,9 +11,9 @@ returns-clause-held c =
     let old = c.args.point.now.state in
     let new = c.advance.new.self.state in
     let memory = c.memory.ensures ∙ ap (λ (s : MemoryState). s.machine.memory) c.snapshot.ensures in
-    let before = bytes_before old.machine.memory c.memory.result.now stops.watches.items c.deref.result.now c.deref-2.result.now c.in_ok-bytes.bytes.items c.deref-3.result.now memory c.deref.ensures.value c.deref-2.ensures.value c.deref-3.ensures.value c.in_ok-bytes.ensures in
-    held_is c.args.goal stops old new c.deref-4.result.now c.deref-2.result.now c.memory-2.result.now c.cpu-cpu.result.now c.cpu.result.now.pc c.cpu-2.result.now.main.c c.return_for-returned.result c.broken.result c.changed-change.result c.is_reached.result c.first_of.result
-    c.deref-4.ensures.value c.deref-2.ensures.value
+    let before = bytes_before old.machine.memory c.memory.result.now c.args.watched.now c.in_ok-bytes.bytes.items c.deref.result.now memory c.deref.ensures.value c.in_ok-bytes.ensures in
+    held_is c.args.goal stops old new c.deref-2.result.now c.args.watched.now c.memory-2.result.now c.cpu-cpu.result.now c.cpu.result.now.pc c.cpu-2.result.now.main.c c.return_for-returned.result c.broken.result c.changed-change.result c.is_reached.result c.first_of.result
+    c.deref-2.ensures.value c.requires.watched
     (c.cpu-cpu.ensures ∙ ap (λ (s : MemoryState). s.machine.cpu) c.snapshot-snapshot.ensures)
     (c.memory-2.ensures ∙ ap (λ (s : MemoryState). s.machine.memory) c.snapshot-snapshot.ensures)
     (ap (λ (r : Cpu). r.pc) c.cpu.ensures ∙ ap (λ (s : MemoryState). s.machine.cpu.pc) c.snapshot-3.ensures)
