@@ -4,3 +4,5 @@ pub mod Named
 pub mod In_order
 pub mod Numbers
 pub mod Refused
+mod Words
+mod Modules

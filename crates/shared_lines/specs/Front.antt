@@ -1,10 +1,11 @@
 -- The front: what comes before each source. Definitions from the command line come first, then shared files.
-use Rattle.std.specs.Prelude.{◌≡◌, ◌<◌, ◌^◌, ℕ, ◌+◌, ◌-◌, ◌==◌, ◌&&◌, not, Bool, true, false, List, [], ◌∷◌, ◌++◌, Option, Some, None, codes, drop, if◌then◌else◌, length, nat_le, slice_get, take}
+use Rattle.std.specs.Prelude.{◌≡◌, ◌<◌, ◌^◌, ℕ, ◌+◌, ◌-◌, ◌==◌, ◌&&◌, not, Bool, true, false, List, [], ◌∷◌, ◌++◌, Option, Some, None, codes, drop, if◌then◌else◌, length, nat_le, nat_lt, slice_get, take}
 use Rattle.std.specs.Borrow.{Bor}
-use Rattle.std.specs.List.{flat_map, list_all, prefix_len, sum_by}
+use Rattle.std.specs.List.{count_by, flat_map, list_all, prefix_len, sum_by}
 use Rattle.std.specs.Option.{option_map}
 use Rattle.asm_macro.specs.Texts.{source_lines, source_part}
 use Rattle.asm_macro.specs.declared.fault.MacroFault.{MacroFault}
+use Rattle.common.specs.declared.limits.TheConstants.{LONGEST_TEXT}
 use Rattle.zlink.specs.Types.{AsmFault, Why}
 use Rattle.shared_lines.specs.declared.front.SourceFile.{SourceFile}
 use Rattle.shared_lines.specs.declared.front.Front.{Front}
@@ -71,6 +72,26 @@ abbrev pub line_in : List SourceFile → List ℕ → ℕ → List ℕ × ℕ
 line_in [] path line = (path, line)
 line_in (file ∷ files) path line = if nat_le line (line_count file) then (file.path.now, line) else line_in files path (line - line_count file)
 
+-- a word of the command line counts as a file of one line
+abbrev pub word_or_file : Option (List ℕ) → List ℕ × ℕ → List ℕ × ℕ
+word_or_file (Some word) at = (word, 1)
+word_or_file None at = at
+
+abbrev pub word_of_line : Front → ℕ → Option (List ℕ)
+word_of_line front line = option_map (λ word. word.now) (slice_get front.defines.now (line - 1))
+
+-- The path and the own number of a line of the front, or of the source with this path after it.
+abbrev pub own_place : Front → List ℕ → ℕ → List ℕ × ℕ
+own_place front path line = word_or_file (word_of_line front line) (line_in front.files.now path (line - length front.defines.now))
+
+abbrev pub source_path : Option SourceFile → List ℕ
+source_path None = []
+source_path (Some file) = file.path.now
+
+-- the path of a source, given its number
+abbrev pub path_at : List SourceFile → ℕ → List ℕ
+path_at files number = source_path (slice_get files number)
+
 -- an error in the line of a word is reported with the word, any other with the path and the number of its line
 abbrev pub word_or_line : Option (List ℕ) → List ℕ × ℕ → Why → List ℕ
 word_or_line (Some word) at why = program_refusal_text word (refusal.Define why)
@@ -79,12 +100,28 @@ word_or_line None at why = program_refusal_text at.0 (of_source (record { line =
 -- The text of an error in a line of the front, or of a source after it. The path is that of the source.
 abbrev pub front_fault_text : Front → List ℕ → AsmFault → List ℕ
 front_fault_text front path fault =
-    word_or_line (option_map (λ word. word.now) (slice_get front.defines.now (fault.line - 1)))
-    (line_in front.files.now path (fault.line - length front.defines.now)) fault.why
+    word_or_line (word_of_line front fault.line) (line_in front.files.now path (fault.line - length front.defines.now)) fault.why
 
 abbrev pub is_too_long : Why → Bool
 is_too_long (Why.Macro MacroFault.TooManyLines) = true
 is_too_long why = false
+
+-- how many lines end in a text
+abbrev pub line_ends : List ℕ → ℕ
+line_ends text = count_by (λ byte. byte == 0x0A) text
+
+-- the line of a text with its first byte too many
+abbrev pub overlong_line : List ℕ → ℕ
+overlong_line text = line_ends (take LONGEST_TEXT text) + 1
+
+-- An error of a text, in its line. If the text is longer than a source may be, the assembler finds the error in the first line. It is in the
+-- line with the first byte too many.
+abbrev pub in_its_line : List ℕ → AsmFault → AsmFault
+in_its_line text fault = if is_too_long fault.why && nat_lt LONGEST_TEXT (length text) then record fault { line = overlong_line text } else fault
+
+-- The text of an error that the front has by itself.
+abbrev pub own_fault_text : Front → AsmFault → List ℕ
+own_fault_text front fault = front_fault_text front [] (in_its_line (front_text front) fault)
 
 -- The text of an error of a source after the front. If both together are longer than a source may be, the error is in their first line. It is
 -- reported for the first line of the source, since the front by itself is not too long.

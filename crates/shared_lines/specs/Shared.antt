@@ -11,7 +11,7 @@ use Rattle.asm_spell.specs.Line.{Line}
 use Rattle.asm_text.specs.Lines.{Numbered}
 use Rattle.zlink.specs.Types.{AsmFault}
 use Rattle.shared_lines.specs.Faults.Refusals.{program_refusal_text}
-use Rattle.shared_lines.specs.Front.{front_fault_text, front_text, line_in}
+use Rattle.shared_lines.specs.Front.{front_text, line_in, own_fault_text}
 use Rattle.shared_lines.specs.declared.faults.refusal.Refusal.TheVariants as refusal
 use Rattle.shared_lines.specs.declared.front.Front.{Front}
 
@@ -44,7 +44,7 @@ unshared_text front line = unshared_at (line_in front.files.now [] (line - lengt
 
 abbrev pub first_front_fault : Front → Result Assembled AsmFault → Option (List ℕ)
 first_front_fault front (Ok whole) = None
-first_front_fault front (Err fault) = Some (front_fault_text front [] fault)
+first_front_fault front (Err fault) = Some (own_fault_text front fault)
 
 -- The expansion has this answer, which has a cause in the source.
 abbrev pub HasExpansion : List ℕ → Result (List Numbered) (ℕ × MacroFault) → Type 0

@@ -2,11 +2,12 @@
 
 ghost use Rattle.std.specs.Prelude.{◌≡◌, ◌++◌, ◌-◌, ℕ, IfOk, length, map};
 ghost use Rattle.std.specs.List.{AllZip};
-ghost use Rattle.shared_lines.specs.Behind.{HasOwnLines, IsBehind, IsSource, earlier_origin};
+ghost use Rattle.shared_lines.specs.Behind.{HasOwnLines, IsBehind, IsSource, earlier_lines, earlier_origin};
 ghost use Rattle.shared_lines.specs.Front.{CountsLines, earlier, front_text};
 ghost use Rattle.shared_lines.specs.Private.Steps.{AreNamed};
 
 use crate::front::{Front, SourceFile, front_lines, text_behind};
+use asm_module::Lines;
 use std::alloc::{AllocError, Global};
 use zlink::{Built, Origin, Source};
 
@@ -104,6 +105,23 @@ pub fn number_lines(numbers: &mut [u32], lines: usize)
     }
 }
 
+/// Gives the lines of a module the numbers that they have in its source.
+fn number_module(module: &mut Lines, lines: usize)
+    ensures { (all : ℕ) → CountsLines lines all → («module».new.each.items, «module».new.last) ≡ earlier_lines all «module».old }
+{
+    number_lines(&mut module.each, lines);
+    module.last = own_line(module.last, lines);
+}
+
+/// Gives the lines of modules the numbers that they have in their own sources.
+fn number_modules(modules: &mut [Lines], lines: usize)
+    ensures { (all : ℕ) → CountsLines lines all → map (λ l. (l.each.items, l.last)) modules.new ≡ map (earlier_lines all) modules.old }
+{
+    for module in modules.iter_mut() {
+        number_module(module, lines);
+    }
+}
+
 /// Answers the program with the lines of sources by their own numbers.
 pub fn with_own_lines(mut built: Built, front: Front<'_>) -> Built
     ensures { HasOwnLines front.entry built result }
@@ -111,5 +129,6 @@ pub fn with_own_lines(mut built: Built, front: Front<'_>) -> Built
     let lines = front_lines(front);
     number_origins(&mut built.statements, lines);
     number_lines(&mut built.last, lines);
+    number_modules(&mut built.lines, lines);
     built
 }

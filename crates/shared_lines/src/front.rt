@@ -3,7 +3,7 @@
 ghost use Rattle.std.specs.Prelude.{◌≡◌, ◌++◌, ◌≤◌, IfOk, OnOk, length};
 ghost use Rattle.std.specs.List.{flat_map};
 ghost use Rattle.asm_macro.specs.Texts.{source_part};
-ghost use Rattle.shared_lines.specs.Front.{CountsLines, define_line, defined_name, defined_value, end_of_line, front_lines, front_text, line_count, name_length, with_end};
+ghost use Rattle.shared_lines.specs.Front.{CountsLines, define_line, defined_name, defined_value, end_of_line, front_lines, front_text, line_count, name_length, path_at, with_end};
 
 use asm_macro::source_part;
 use bstr::ByteSlice;
@@ -23,6 +23,16 @@ pub struct Front<'a> {
     pub defines: &'a [&'a str],
     /// Files that each source begins with. They hold definitions and macros.
     pub files: &'a [SourceFile<'a>],
+}
+
+/// Answers the path of a source, given its number; no path if there is no such source.
+pub fn path_at<'a>(files: &[SourceFile<'a>], number: usize) -> &'a str
+    ensures { result.now ≡ path_at files.now number }
+{
+    match files.get(number) {
+        Some(file) => file.path,
+        None => "",
+    }
 }
 
 /// Answers how many bytes of a word `NAME=VALUE` come before the first `=`.

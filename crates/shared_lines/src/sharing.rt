@@ -12,7 +12,7 @@ ghost use Rattle.shared_lines.specs.Shared.{HasExpansion, IsFaultOfFront, IsOwnF
 
 use crate::faults::Told;
 use crate::front::Front;
-use crate::locating::{told_at, unshared_at};
+use crate::locating::{told_alone, unshared_at};
 use asm_module::{MacroFault, SourceLine, Why, assemble_with, read_source};
 use asm_spell::{Body, Line};
 use std::alloc::{AllocError, Global};
@@ -62,6 +62,7 @@ fn first_fault<'a>(
     front: Front<'a>,
     text: &[u8],
 ) -> Result<Option<Told<'a>>, AllocError>
+    requires { text.now ≡ front_text front }
     ensures { IfOk result (λ told. IsOwnFault front.entry None text.now (option_map told_text told)) }
 {
     let fault = match assemble_with(alloc, b"", text, false) {
@@ -70,7 +71,7 @@ fn first_fault<'a>(
     };
     match fault.why {
         Why::NoMemory => Err(AllocError),
-        _ => Ok(Some(told_at(front, "", fault))),
+        _ => Ok(Some(told_alone(front, text, fault))),
     }
 }
 

@@ -10,7 +10,7 @@ use Rattle.zlink.specs.Built.{IsBuilt, IsExactBuild}
 use Rattle.zlink.specs.Linked.{symbol_of}
 use Rattle.zlisting.specs.Listing.{listing}
 use Rattle.zlisting.specs.Symbols.{symbols}
-use Rattle.shared_lines.specs.Front.{source_fault_text}
+use Rattle.shared_lines.specs.Front.{path_at, source_fault_text}
 use Rattle.shared_lines.specs.Shared.{UnlessFaulty}
 use Rattle.shared_lines.specs.declared.front.Front.{Front}
 use Rattle.z80dev_finish.specs.declared.answer.Kind.{Kind}
@@ -22,13 +22,6 @@ use Rattle.shared_lines.specs.Behind.{HasOwnLines, IsBehind, IsSource}
 use Rattle.z80dev_make.specs.Answers.{no_program, program_files}
 use Rattle.z80dev_make.specs.Products.{IsMapText, listing_files, map_files, symbol_files}
 use Rattle.z80dev_make.specs.declared.products.Products.{Products}
-
-abbrev pub source_path : Option SourceFile → List ℕ
-source_path None = []
-source_path (Some file) = file.path.now
-
-abbrev pub path_at : List SourceFile → ℕ → List ℕ
-path_at files number = source_path (slice_get files number)
 
 -- the line that says where a jump is that was written as JR and had to grow
 abbrev pub grown_text : List ℕ → ℕ → List ℕ

@@ -1,5 +1,6 @@
 -- What `link` answers for object files.
-use Rattle.std.specs.Prelude.{◌≡◌, ◌⊎◌, ℕ, List, [], ◌++◌, false, Some, None, Result, Ok, Err, map, slice_get, take}
+use Rattle.std.specs.Prelude.{◌≡◌, ◌⊎◌, ℕ, Bool, List, [], ◌++◌, false, Some, None, Result, Ok, Err, length, map, slice_get, take}
+use Rattle.std.specs.Bool.{OnTrue}
 use Rattle.std.specs.List.{AllZip}
 use Rattle.zmo_module.specs.Modules.{Module}
 use Rattle.zmo_object.specs.declared.fault.ObjectFault.{ObjectFault}
@@ -11,6 +12,7 @@ use Rattle.shared_lines.specs.Faults.Refusals.{object_text}
 use Rattle.z80dev_finish.specs.Answers.{Answer, nothing}
 use Rattle.z80dev_finish.specs.declared.answer.Kind.{Kind}
 use Rattle.program_map.specs.Map.{program_map}
+use Rattle.program_map.specs.Sums.{IsWholeMap}
 use Rattle.program_map.specs.Text.{map_text}
 use Rattle.z80dev_make.specs.Answers.{no_program, program_files}
 use Rattle.z80dev_make.specs.Products.{map_files, symbol_files}
@@ -39,6 +41,11 @@ abbrev pub link_answer : Products → List Module → Result Linked LinkFault �
 link_answer products modules (Ok l) = record { files = linked_files products modules l; printed = []; said = None }
 link_answer products modules (Err fault) = no_program fault
 
+-- If the map is wanted and there is a program, the figures of the map add up to the program's bytes.
+abbrev pub IsWholeLink : Bool → List Module → Result Linked LinkFault → Type 0
+IsWholeLink wanted modules (Ok l) = OnTrue wanted (IsWholeMap (length l.com.items) (program_map None l.places.items modules))
+IsWholeLink wanted modules (Err fault) = Unit {0}
+
 -- The object files are these modules, and this is what linking them answers.
 pub record IsLinkOf (products : Products) (objects : List (List ℕ)) (answer : Answer) : Type 0 where
   pub modules : List Module
@@ -47,6 +54,7 @@ pub record IsLinkOf (products : Products) (objects : List (List ℕ)) (answer : 
   pub linked : IsLinked modules result
   pub exact : IsExactLink modules result
   pub answers : answer ≡ link_answer products modules result
+  pub whole : IsWholeLink products.«map» modules result
 
 -- The answer is that of linking the object files, or the error of the first one that cannot be read.
 abbrev pub IsLink : Products → List (List ℕ) → Answer → Type 0

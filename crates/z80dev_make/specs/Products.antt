@@ -1,10 +1,11 @@
 -- The files that are made of a program, and their kinds.
-use Rattle.std.specs.Prelude.{◌≡◌, ℕ, Bool, true, false, List, [], ◌∷◌, ◌++◌, Option, Some, None, map}
+use Rattle.std.specs.Prelude.{◌≡◌, ℕ, Bool, true, false, List, [], ◌∷◌, ◌++◌, Option, Some, None, length, map}
 use Rattle.zlink.specs.Linked.{Symbol}
 use Rattle.zlink.specs.declared.building.Built.{Built}
 use Rattle.zlink.specs.declared.source.Source.{Source}
 use Rattle.program_map.specs.Mapped.{MappedProgram}
 use Rattle.program_map.specs.Programs.{IsMapOf}
+use Rattle.program_map.specs.Sums.{IsWholeMap}
 use Rattle.program_map.specs.SymbolFile.{symbol_file}
 use Rattle.program_map.specs.Text.{map_text}
 use Rattle.program_map.specs.declared.form.SymbolForm.{SymbolForm}
@@ -52,7 +53,7 @@ abbrev pub map_files : Bool → List ℕ → List (Kind × List ℕ)
 map_files true text = (kind.Map, text) ∷ []
 map_files false text = []
 
--- the text of the map of a program that was built of these sources, if it is wanted
+-- The text of the map of a program that was built of these sources, if it is wanted. The figures of the map add up to the program's bytes.
 abbrev pub IsMapText : Bool → Bool → List Source → Built → List ℕ → Type 0
-IsMapText true grow sources b text = (m : MappedProgram) × IsMapOf grow sources b m × (text ≡ map_text m)
+IsMapText true grow sources b text = (m : MappedProgram) × IsMapOf grow sources b m × IsWholeMap (length b.com.items) m × (text ≡ map_text m)
 IsMapText false grow sources b text = text ≡ []

@@ -4,7 +4,7 @@ ghost use Rattle.std.specs.Prelude.{◌≡◌, [], IfOk, List, Ok, Option, slice
 ghost use Rattle.std.specs.List.{AllZip};
 ghost use Rattle.z80dev_make.specs.Answers.{answer_of};
 ghost use Rattle.shared_lines.specs.Faults.Refusals.{told_text};
-ghost use Rattle.z80dev_make.specs.Build.{IsAnswerOf, IsBuild, IsMade, IsRefusal, built_answer, grown_lines, line_from, path_at};
+ghost use Rattle.z80dev_make.specs.Build.{IsAnswerOf, IsBuild, IsMade, IsRefusal, built_answer, grown_lines, line_from};
 ghost use Rattle.shared_lines.specs.Behind.{IsBehind};
 ghost use Rattle.shared_lines.specs.Front.{front_text};
 ghost use Rattle.z80dev_make.specs.Jumps.{jumps_of};
@@ -24,24 +24,14 @@ use crate::products::{Products, put_listing, put_map, put_symbols};
 use crate::warning::warn_built;
 use program_map::{map_of_built, map_text};
 use shared_lines::{
-    Front, SourceFile, Told, fault_of_front, front_text, sources_behind, sources_of, texts_behind,
-    told_behind, with_own_lines,
+    Front, SourceFile, Told, fault_of_front, front_text, path_at, sources_behind, sources_of,
+    texts_behind, told_behind, with_own_lines,
 };
 use std::alloc::{AllocError, Global};
 use std::fmt;
 use z80dev_finish::Answer;
 use zlink::{BuildFault, Built, Origin, Source, build_with};
 use zlisting::{listing, symbols};
-
-/// Answers the path of a source, given its number.
-fn path_at<'a>(files: &[SourceFile<'a>], number: usize) -> &'a str
-    ensures { result.now ≡ path_at files.now number }
-{
-    match files.get(number) {
-        Some(file) => file.path,
-        None => "",
-    }
-}
 
 /// A jump that was written as `JR` and had to grow, as it is printed.
 #[derive(Clone, Copy)]

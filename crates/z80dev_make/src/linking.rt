@@ -7,7 +7,7 @@ ghost use Rattle.zlink.specs.Linked.{IsLinked};
 ghost use Rattle.zmo_module.specs.Modules.{module_of};
 ghost use Rattle.z80dev_finish.specs.Answers.{MemoryAside, file_of};
 ghost use Rattle.z80dev_make.specs.Answers.{answer_of};
-ghost use Rattle.z80dev_make.specs.Link.{IsLink, link_answer, linked_files};
+ghost use Rattle.z80dev_make.specs.Link.{IsLink, IsWholeLink, link_answer, linked_files};
 ghost use Rattle.z80dev_make.specs.Products.{map_files};
 ghost use Rattle.z80dev_make.specs.Private.Steps.{AreRead};
 
@@ -42,7 +42,8 @@ fn map_text_of(
     linked: &Linked,
 ) -> Result<Vec<u8>, AllocError>
     requires { IsLinked (map module_of modules.now) (Ok linked.now) }
-    ensures { IfOk result (λ text. map_files wanted text.items ≡ map_files wanted (map_text (program_map None linked.now.places.items (map module_of modules.now)))) }
+    ensures text { IfOk result (λ text. map_files wanted text.items ≡ map_files wanted (map_text (program_map None linked.now.places.items (map module_of modules.now)))) }
+    ensures whole { IfOk result (λ text. IsWholeLink wanted (map module_of modules.now) (Ok linked.now)) }
 {
     if wanted {
         let map = map_of_linked(alloc, modules, linked)?;
@@ -60,7 +61,8 @@ fn files_of(
     linked: Linked,
 ) -> Result<Vec<NewFile>, AllocError>
     requires { IsLinked (map module_of modules.now) (Ok linked) }
-    ensures { IfOk result (λ files. map file_of files.items ≡ linked_files products (map module_of modules.now) linked) }
+    ensures files { IfOk result (λ files. map file_of files.items ≡ linked_files products (map module_of modules.now) linked) }
+    ensures whole { IfOk result (λ files. IsWholeLink products.«map» (map module_of modules.now) (Ok linked)) }
 {
     let mapped = map_text_of(alloc, products.map, modules, &linked)?;
     let mut files = program(alloc, linked.sizes, linked.cert, linked.com)?;
@@ -84,7 +86,8 @@ fn answered(
     linking: Result<Linked, LinkFault>,
 ) -> Result<Answer<Told<'static>>, AllocError>
     requires { IsLinked (map module_of modules.now) linking }
-    ensures { IfOk result (λ answer. answer_of answer ≡ link_answer products (map module_of modules.now) linking) }
+    ensures answer { IfOk result (λ answer. answer_of answer ≡ link_answer products (map module_of modules.now) linking) }
+    ensures whole { IfOk result (λ answer. IsWholeLink products.«map» (map module_of modules.now) linking) }
 {
     match linking {
         Ok(linked) => {

@@ -1,7 +1,8 @@
-use Rattle.std.proofs.Common.{map, length, refl, ap, ◌∙◌}
+use Rattle.std.proofs.Common.{map, length, refl, sym, ap, ◌∙◌}
 use Rattle.std.proofs.lemmas.List.{length-map, with_items_is}
-use Rattle.shared_lines.specs.Behind.{earlier_origin}
+use Rattle.shared_lines.specs.Behind.{earlier_lines, earlier_origin}
 use Rattle.shared_lines.specs.Front.{earlier, front_lines}
+use Rattle.shared_lines.proofs.Modules.{own_pair}
 use Rattle.shared_lines.proofs.behind.with_own_lines.Goals as goal
 
 pub returns : goal.returns
@@ -9,6 +10,8 @@ returns c =
     let all = front_lines c.args.front in
     let origins = c.number_origins.ensures all c.front_lines-lines.ensures in
     let lines = c.number_lines.ensures all c.front_lines-lines.ensures in
+    let modules = c.number_modules.ensures all c.front_lines-lines.ensures in
+    let long = sym (length-map c.number_modules.new.modules own_pair) ∙ ap length modules ∙ length-map c.deref_mut-3.result.now (earlier_lines all) in
     record {
       file = refl;
       sizes = refl;
@@ -16,7 +19,9 @@ returns c =
       symbols = refl;
       grown = refl;
       modules = refl;
-      lines = refl;
+      lines =
+          ap (map own_pair) (with_items_is c.args.built.lines c.number_modules.new.modules (long ∙ c.deref_mut-3.ensures.len))
+          ∙ modules ∙ ap (map (earlier_lines all)) c.deref_mut-3.ensures.value;
       statements =
           with_items_is c.args.built.statements c.number_origins.new.origins (ap length origins ∙ length-map c.deref_mut.result.now (earlier_origin all) ∙ c.deref_mut.ensures.len)
           ∙ origins ∙ ap (map (earlier_origin all)) c.deref_mut.ensures.value;

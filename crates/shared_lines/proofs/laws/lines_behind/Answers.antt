@@ -1,4 +1,5 @@
 use Rattle.shared_lines.proofs.Lines.{behind, count}
+use Rattle.shared_lines.proofs.Words.{all_word_bytes}
 use Rattle.shared_lines.proofs.laws.lines_behind.Goals as goal
 
 pub returns-clause-behind : goal.returns-clause-behind
@@ -6,3 +7,6 @@ returns-clause-behind c = behind
 
 pub returns-clause-count : goal.returns-clause-count
 returns-clause-count c = count
+
+pub returns-clause-words : goal.returns-clause-words
+returns-clause-words c = all_word_bytes c.scanned.ensures

@@ -6,4 +6,4 @@ pub returns-in_default : goal.returns-in_default
 returns-in_default c =
     let fault = c.in-Err.fault in
     let other = c.in_default.not-NoMemory in
-    (Err fault, other, caused [] c.args.text.now false fault fault.why other c.in-Err.ensures.answer, ap Some c.told_at.ensures)
+    (Err fault, other, caused [] c.args.text.now false fault fault.why other c.in-Err.ensures.answer, ap Some c.told_alone.ensures)
