@@ -1,5 +1,5 @@
 -- How the command `debug` ends.
-use Rattle.std.specs.Prelude.{◌≡◌, ◌⊎◌, ℕ, IfOk, List, [], Option, None, Some, Result, Ok, Err, Vec, codes, length, map, unwrap_or}
+use Rattle.std.specs.Prelude.{◌≡◌, ◌⊎◌, ℕ, List, [], Option, None, Some, Result, Ok, Err, Vec, codes, length, map, unwrap_or}
 use Rattle.std.specs.Borrow.{Bor}
 use Rattle.std.specs.Global.{Global}
 use Rattle.cpm_run.specs.declared.arriving.Arrival.{Arrival}
@@ -76,8 +76,8 @@ debugged_words debugging = map (λ word. word.now) debugging.words.items
 abbrev pub IsDebugged : Debugging → Inputs → Option Recorded → World → World → End → Type 0
 IsDebugged debugging inputs recorded old new e = (known : Known) × AreKnown (bytes_in inputs.labels) (length inputs.program.items) known × (result : Result Unit DebugFault)
     × Debugs inputs.program.items (debugged_words debugging) old.output new.output new.input.failed new.input.reads result
-    × IfOk result (λ done. IsDebuggedRun inputs.program.items (debugged_words debugging) inputs.image.items inputs.typed.items (arrivals_in recorded) known.labels
-    (unwrap_or (bytes_in inputs.list) []) old.input.left new.input.left old.output new.output)
+    × IsDebuggedRun inputs.program.items (debugged_words debugging) inputs.image.items inputs.typed.items (arrivals_in recorded) known.labels
+    (unwrap_or (bytes_in inputs.list) []) old.input.left new.input.left old.output new.output result
     × IsDebugEnd result e
 
 -- `debug`: the files are read, and the program is debugged. No file is written.

@@ -11,6 +11,7 @@ use Rattle.screen_codes.specs.declared.codes.Codes.TheVariants.{Plain, Adm3a, Vt
 use Rattle.screen_codes.specs.declared.codes.Pending.{Pending}
 use Rattle.screen_codes.specs.declared.codes.Pending.TheVariants.{Nothing}
 use Rattle.streams.specs.Stream.{Stream}
+use Rattle.streams.specs.Writing.{Hands_on}
 use Rattle.streams.specs.declared.writing.WriteFailed.{WriteFailed}
 use Rattle.z80dev_commands.specs.declared.job.Play.{Play}
 use Rattle.z80dev_finish.specs.End.{Tells, end_status}
@@ -127,6 +128,11 @@ abbrev pub ReportsPlay : Option (List ℕ) → Result (Result Unit End) End → 
 ReportsPlay lines (Ok written) end pc old new status = (mid : Stream) × (first : ℕ) × ConcludesPlay end pc old mid first × ReportsWritten lines written first mid new status
 ReportsPlay lines (Err e) end pc old new status = (status ≡ end_status e) × Tells e old new
 
+-- how a session ended, once what a buffer held back is written out, or that failed
+abbrev pub end_at : PlayEnd → Result Unit WriteFailed → PlayEnd
+end_at end (Ok _) = end
+end_at end (Err _) = play.Failed
+
 abbrev pub EndsPlay : Play → Inputs → PlayEnd → ℕ → ℕ → List ℕ → List Arrival → Folder → Folder → Stream → Stream → ℕ → Type 0
 EndsPlay p inputs end turns pc image arrivals old new before after status =
     (kept : Result (Result Unit End) End) × KeepsPlayed p inputs.image.items image arrivals turns old new kept × ReportsPlay (lines_in inputs) kept end pc before after status
@@ -142,13 +148,15 @@ seated p world = seat_of (codes_of p.terminal) Nothing (keys_of p.raw) false wor
 
 -- The program is run with its words on the disk for somebody at standard input and standard output; then the session ends. The streams do not tell
 -- which screen codes and keys the seat at the end has, nor what is begun there. For no bytes all codes print nothing. So with any codes of the
--- beginning it is known what standard output has at the end: what it had, and then what is printed for the bytes that the program put.
+-- beginning it is known what standard output has at the end: what it had, and then what is printed for the bytes that the program put. At last
+-- what a buffer holds back of it is written out; if that fails, it is as if the screen had.
 abbrev pub Plays : Play → Inputs → Option Recorded → Folder → World → World → ℕ → Type 0
 Plays p inputs recorded claimed old new status =
     (end : PlayEnd) × (turns pc : ℕ) × (image : List ℕ) × (arrivals : List Arrival) × (whose : Codes) × (pending : Pending) × (keys : Keys) × (is_leaving : Bool)
+    × (printed : Stream) × (flushed : Result Unit WriteFailed)
     × IsSession inputs.program.items (map (λ word. word.now) p.words.items) inputs.image.items (unwrap_or p.steps most_steps) recorded (seated p old)
-    end turns pc image arrivals (seat_of whose pending keys is_leaving new.input.left new.output.bytes)
-    × EndsPlay p inputs end turns pc image arrivals claimed new.folder old.errors new.errors status
+    end turns pc image arrivals (seat_of whose pending keys is_leaving new.input.left printed.bytes)
+    × Hands_on printed new.output flushed × EndsPlay p inputs (end_at end flushed) turns pc image arrivals claimed new.folder old.errors new.errors status
 
 -- `play`: the files are read, and the program is played. Standard input is read only while it is.
 abbrev pub PlayEndsWith : Play → World → World → ℕ → Type 0

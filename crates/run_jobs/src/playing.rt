@@ -3,7 +3,7 @@
 ghost use Rattle.std.specs.Prelude.{◌≡◌, ◌≤◌, ℕ, IfOk, List, Vec, false, map, option_map, string_bytes, unwrap_or};
 ghost use Rattle.std.specs.List.{concat};
 ghost use Rattle.job_steps.specs.Reporting.{Judging};
-ghost use Rattle.run_jobs.specs.Playing.{ConcludesPlay, EndsPlay, IsSession, KeepsPlayed, PlayEndsWith, ReadsPlayed, ReadsRecord, ReadsSession, Records, ReportsPlay, bad_in_play, bad_record, bad_terminal, codes_named, codes_of, keys_of};
+ghost use Rattle.run_jobs.specs.Playing.{ConcludesPlay, EndsPlay, IsSession, KeepsPlayed, PlayEndsWith, ReadsPlayed, ReadsRecord, ReadsSession, Records, ReportsPlay, bad_in_play, bad_record, bad_terminal, codes_named, codes_of, end_at, keys_of};
 ghost use Rattle.z80dev_run.specs.Program.{IsReadyToRun};
 ghost use Rattle.run_jobs.specs.Private.Images.{IsFreeOf};
 ghost use Rattle.job_steps.specs.Reading.{reader_of};
@@ -15,7 +15,7 @@ use claimed_images::Image;
 use job_steps::{Ended, Host, read, refuse_value};
 use screen_codes::Codes;
 use std::alloc::{AllocError, Global};
-use streams::{Input, Sink};
+use streams::{Input, Sink, WriteFailed, flush};
 use z80dev_commands::Play;
 use z80dev_finish::{DONE, End, Files, is_same_path, report};
 use z80dev_run::{
@@ -232,20 +232,31 @@ fn report_play<E: Sink>(
     }
 }
 
+/// How a session ended, once what a buffer held back is written out, or that failed.
+fn end_at(end: PlayEnd, flushed: Result<(), WriteFailed>) -> PlayEnd
+    ensures { result ≡ end_at end flushed }
+{
+    match flushed {
+        Ok(()) => end,
+        Err(_) => PlayEnd::Failed,
+    }
+}
+
 /// Keeps the image, writes the bytes that came, reports why the session ended, and gives the exit status.
 fn end_play<F: Files, E: Sink>(
     alloc: Global,
     job: &Play<'_>,
     inputs: &Inputs,
     played: &PlayedRan,
+    end: PlayEnd,
     files: &mut F,
     errors: &mut E,
 ) -> u8
     requires free { IsFreeOf job.now.disk (F.folder files.old) }
-    ensures { EndsPlay job.now inputs.now played.now.end played.now.turns played.now.pc (concat played.now.image) played.now.arrivals.items (F.folder files.old) (F.folder files.new) (E.stream errors.old) (E.stream errors.new) result }
+    ensures { EndsPlay job.now inputs.now end played.now.turns played.now.pc (concat played.now.image) played.now.arrivals.items (F.folder files.old) (F.folder files.new) (E.stream errors.old) (E.stream errors.new) result }
 {
     let kept = keep_played(alloc, job, &inputs.image, played, files);
-    report_play(alloc, &inputs.warnings, kept, played.end, played.pc, errors)
+    report_play(alloc, &inputs.warnings, kept, end, played.pc, errors)
 }
 
 /// How keys come.
@@ -296,8 +307,9 @@ fn play<F: Files, I: Input, W: Sink + Drop, E: Sink>(
     );
     let steps = job.steps.unwrap_or(u64::MAX);
     let played = run_session(alloc, ready, &recorded, &mut desk, steps);
-    let status = end_play(alloc, job, &inputs, &played, &mut files, &mut errors);
-    let (input, output) = desk.into_streams();
+    let (input, mut output) = desk.into_streams();
+    let end = end_at(played.end, flush(&mut output));
+    let status = end_play(alloc, job, &inputs, &played, end, &mut files, &mut errors);
     let host = Host {
         files,
         input,

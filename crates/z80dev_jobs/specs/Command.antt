@@ -1,5 +1,5 @@
 -- What the command `z80dev` does, whatever its words.
-use Rattle.std.specs.Prelude.{◌≡◌, ◌≢◌, ◌⊎◌, ℕ, Bool, true, List, ◌++◌, Result, codes, decimal}
+use Rattle.std.specs.Prelude.{◌≡◌, ◌≢◌, ◌⊎◌, ℕ, Bool, true, List, [], ◌++◌, Result, codes, decimal}
 use Rattle.clap.specs.Words.{IsAmong, fault_of, takes}
 use Rattle.clap.specs.declared.error.kind.ErrorKind.{ErrorKind}
 use Rattle.clap.specs.declared.error.kind.ErrorKind.TheVariants as kind
@@ -53,9 +53,9 @@ abbrev pub Shows : Stream → Stream → Stream → Stream → ℕ → Type 0
 Shows before after old new status = (text : List ℕ)
     × (((status ≡ 0) × PrintsAll before after text × (new ≡ old)) ⊎ ((status ≡ 3) × PutsFront before after text × Tells end.Stream old new))
 
--- An error in the words is put on standard error.
+-- A line, or more, says what is wrong with the words.
 abbrev pub RefusesUsage : Stream → Stream → Stream → Stream → ℕ → Type 0
-RefusesUsage before after old new status = (status ≡ 2) × (after ≡ before) × (why : List ℕ) × IsPut old new (codes "error: " ++ why)
+RefusesUsage before after old new status = (status ≡ 2) × (after ≡ before) × (why : List ℕ) × (why ≢ []) × IsPut old new (error_line why)
 
 -- the words ask for the help, or for the version
 abbrev pub AsksToShow : ErrorKind → Type 0

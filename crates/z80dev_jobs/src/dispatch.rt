@@ -1,6 +1,6 @@
 //! The command.
 
-ghost use Rattle.std.specs.Prelude.{◌≡◌, ◌≤◌, false, map};
+ghost use Rattle.std.specs.Prelude.{◌≡◌, ◌≢◌, ◌≤◌, [], false, map};
 ghost use Rattle.debugger.specs.declared.conversation.TheConstants.{MOST_READS};
 ghost use Rattle.clap.specs.Words.{kind_of};
 ghost use Rattle.z80dev_jobs.specs.Command.{CommandEnds, JobEnds};
@@ -23,7 +23,7 @@ use disk_jobs::do_on_disk;
 use job_steps::{Ended, Host, refuse_value, report_any, report_line};
 use run_jobs::{debug_job, play_job, run_job};
 use std::alloc::Global;
-use streams::{print, put_all, tell};
+use streams::{print, tell};
 use z80dev::{DONE, End, Files, Input, Job, Sink, USAGE, commands, pipe, report};
 use z80dev_commands::Explain;
 
@@ -41,6 +41,18 @@ fn refuse_fault<E: Sink>(alloc: Global, fault: WordsFault, errors: &mut E) -> u8
         }
         Err(_) => report(&End::NoMemory, errors),
     }
+}
+
+/// The text of `clap` for words that are wrong, without the beginning and the line feed that `tell` puts.
+fn reason_of(text: &str) -> &str
+    ensures { result.now ≢ [] }
+{
+    let text = text.strip_prefix("error: ").unwrap_or(text);
+    let text = text.strip_suffix('\n').unwrap_or(text);
+    if text.is_empty() {
+        return "wrong words";
+    }
+    text
 }
 
 /// Prints the help or the version that the words ask for, or writes what is wrong with them on standard error, and gives the exit status.
@@ -66,9 +78,7 @@ fn refuse_words<W: Sink, E: Sink>(
             }
         }
         _ => {
-            // clap begins these texts so too.
-            let why = text.strip_prefix("error: ").unwrap_or(&text);
-            let _ = put_all(errors, &[b"error: ", why.as_bytes()]);
+            let _ = tell(errors, reason_of(&text).as_bytes());
             USAGE
         }
     }

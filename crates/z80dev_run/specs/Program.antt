@@ -1,5 +1,5 @@
 -- What the command `run` does with the bytes of its files and of standard input.
-use Rattle.std.specs.Prelude.{◌≡◌, ◌++◌, ◌∷◌, ◌<◌, ◌^◌, [], ℕ, All, List, Ok, Option, codes, decimal, length, map}
+use Rattle.std.specs.Prelude.{◌≡◌, ◌++◌, ◌∷◌, ◌<◌, ◌^◌, [], ℕ, All, List, Ok, Err, Option, Result, codes, decimal, length, map}
 use Rattle.std.specs.List.{concat, flat_map}
 use Rattle.hex.specs.Hex.{encode_upper}
 use Rattle.streams.specs.Stream.{Stream}
@@ -16,7 +16,11 @@ use Rattle.cpm_run.specs.Walks.{IsTraced}
 use Rattle.cpm_run.specs.declared.recording.Record.{Record}
 use Rattle.cpm_run.specs.declared.recording.Wish.{Wish}
 use Rattle.cpm_run.specs.declared.ending.Why.{Why}
-use Rattle.debugger.specs.Conversation.{DebugsTo}
+use Rattle.debugger.specs.Conversation.{DebugsSoFar, DebugsTo}
+use Rattle.debugger.specs.declared.conversation.Broken.TheVariants as broken
+use Rattle.debugger.specs.declared.debugging.DebugFault.{DebugFault}
+use Rattle.debugger.specs.declared.debugging.DebugFault.TheVariants as debug
+use Rattle.state_text.specs.Labelled.{Known}
 use Rattle.z80dev_disk.specs.Disks.{IsMounted}
 use Rattle.z80dev_run.specs.Input.{typed}
 use Rattle.z80dev_run.specs.declared.running.Ready.{Ready}
@@ -42,11 +46,18 @@ IsTracedRan file words image input before steps wish end turns state kept =
     (disk : Mounted Image) × IsMounted image (Ok disk)
     × IsTraced (λ sectors. sectors) (λ sectors. 0) (λ dialog. dialog) file words disk (dialog_of (typed input) before.bytes before.failures) steps wish end turns state kept
 
+-- The answers to the commands were printed, or if a read failed, those to the lines that had ended. If it broke in another way, this does not say
+-- which were.
+abbrev pub DebugsBy : List ℕ → List (List ℕ) → Mounted Image → List ℕ → List Arrival → Known → List ℕ → Option (List ℕ) → Option (List ℕ) → Stream → Stream → Result Unit DebugFault → Type 0
+DebugsBy file words disk typed recorded known listing from left before after (Ok _) = DebugsTo file words disk typed recorded known listing from left before after
+DebugsBy file words disk typed recorded known listing from left before after (Err (debug.Broken broken.Input)) = DebugsSoFar file words disk typed recorded known listing from left before after
+DebugsBy file words disk typed recorded known listing from left before after (Err other) = Unit {0}
+
 -- The program was debugged with its words on the disk with this image, with what is typed before the start, with the bytes that come later and with
--- these labels. The commands are the lines of a reader: before the session it had `from` to give, and after it `left`. The answers were printed.
-abbrev pub IsDebuggedRun : List ℕ → List (List ℕ) → List ℕ → List ℕ → List Arrival → List (ℕ × List ℕ) → List ℕ → Option (List ℕ) → Option (List ℕ) → Stream → Stream → Type 0
-IsDebuggedRun file words image input recorded labels listing from left before after =
-    (disk : Mounted Image) × IsMounted image (Ok disk) × DebugsTo file words disk (typed input) recorded (record { labels = labels; size = length file }) listing from left before after
+-- these labels. The commands are the lines of a reader: before the session it had `from` to give, and after it `left`.
+abbrev pub IsDebuggedRun : List ℕ → List (List ℕ) → List ℕ → List ℕ → List Arrival → List (ℕ × List ℕ) → List ℕ → Option (List ℕ) → Option (List ℕ) → Stream → Stream → Result Unit DebugFault → Type 0
+IsDebuggedRun file words image input recorded labels listing from left before after result =
+    (disk : Mounted Image) × IsMounted image (Ok disk) × DebugsBy file words disk (typed input) recorded (record { labels = labels; size = length file }) listing from left before after result
 
 -- The program was played with its words on the disk with this image, at a keyboard and a screen: why the session ended, after how many steps and
 -- with which PC, the image of the disk then, and the bytes that came.

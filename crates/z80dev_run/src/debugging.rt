@@ -1,6 +1,6 @@
 //! Debugs a program.
 
-ghost use Rattle.std.specs.Prelude.{◌≡◌, ◌≤◌, ℕ, IfOk, List, false, map};
+ghost use Rattle.std.specs.Prelude.{◌≡◌, ◌≤◌, ℕ, List, false, map};
 ghost use Rattle.debugger.specs.Conversation.{Debugs};
 ghost use Rattle.debugger.specs.declared.conversation.TheConstants.{MOST_READS};
 ghost use Rattle.state_text.specs.Labelled.{symbol_parts};
@@ -35,7 +35,7 @@ impl Ready<'_, '_> {
             → Debugs program words (O.stream output.old) (O.stream output.new) (I.failed commands.new) (I.reads commands.new) result }
         ensures reads { I.reads commands.new ≤ MOST_READS }
         ensures debugged { (program : List ℕ) (words : List (List ℕ)) (image input : List ℕ) → IsReadyToRun program words image input self.entry
-            → IfOk result (λ _. IsDebuggedRun program words image input recorded.now (map symbol_parts symbols.now) listing.now (I.remaining commands.old) (I.remaining commands.new) (O.stream output.old) (O.stream output.new)) }
+            → IsDebuggedRun program words image input recorded.now (map symbol_parts symbols.now) listing.now (I.remaining commands.old) (I.remaining commands.new) (O.stream output.old) (O.stream output.new) result }
     {
         let Ready {
             program: file,

@@ -1,4 +1,4 @@
-use Rattle.std.proofs.Common.{◌∙◌, ℕ, Bor, Err, IfOk, List, Ok, ap, inl, inr, length, map, refl, subst}
+use Rattle.std.proofs.Common.{◌∙◌, ℕ, Bor, Err, List, Ok, ap, inl, inr, length, map, refl, subst}
 use Rattle.run_jobs.proofs.Debugged.{known_by, listed, not_known}
 use Rattle.run_jobs.proofs.Given.{passed_on}
 use Rattle.state_text.specs.Labelled.{symbol_parts}
@@ -63,9 +63,9 @@ returns-clause-ends g c = λ errors.
     let labels = known_by (bytes_in inputs.labels) (length program) c.in_ok-symbols.symbols (subst (λ text. AreSymbols text (Ok c.in_ok-symbols.symbols)) c.as_deref.ensures.value c.in_ok-symbols.ensures) in
     let known = ap (map symbol_parts) c.deref-2.ensures.value ∙ labels.same in
     let listing = listed c.as_deref-2.result (bytes_in inputs.list) _ c.as_deref-2.ensures.value refl in
-    let by_words = subst (λ words. IfOk result (λ done. IsDebuggedRun program (map (λ word. word.now) words) image typed arrivals (map symbol_parts c.deref-2.result.now) c.unwrap_or-listing.result.now from left old new)) c.deref.ensures.value debugged in
-    let by_record = subst (λ bytes. IfOk result (λ done. IsDebuggedRun program (debugged_words c.args.job.now) image typed bytes (map symbol_parts c.deref-2.result.now) c.unwrap_or-listing.result.now from left old new)) c.arrivals_in-arrivals.ensures by_words in
+    let by_words = subst (λ words. IsDebuggedRun program (map (λ word. word.now) words) image typed arrivals (map symbol_parts c.deref-2.result.now) c.unwrap_or-listing.result.now from left old new result) c.deref.ensures.value debugged in
+    let by_record = subst (λ bytes. IsDebuggedRun program (debugged_words c.args.job.now) image typed bytes (map symbol_parts c.deref-2.result.now) c.unwrap_or-listing.result.now from left old new result) c.arrivals_in-arrivals.ensures by_words in
     let came = arrivals_in c.in_ok-read.read.1 in
-    let by_labels = subst (λ symbols. IfOk result (λ done. IsDebuggedRun program (debugged_words c.args.job.now) image typed came symbols c.unwrap_or-listing.result.now from left old new)) known by_record in
-    let by_listing = subst (λ text. IfOk result (λ done. IsDebuggedRun program (debugged_words c.args.job.now) image typed came labels.known.labels text from left old new)) (ap (λ (b : Bor (List ℕ)). b.now) c.unwrap_or-listing.ensures ∙ listing) by_labels in
+    let by_labels = subst (λ symbols. IsDebuggedRun program (debugged_words c.args.job.now) image typed came symbols c.unwrap_or-listing.result.now from left old new result) known by_record in
+    let by_listing = subst (λ text. IsDebuggedRun program (debugged_words c.args.job.now) image typed came labels.known.labels text from left old new result) (ap (λ (b : Bor (List ℕ)). b.now) c.unwrap_or-listing.ensures ∙ listing) by_labels in
     inr (c.in_ok-read.read, c.in_ok-read.ensures, inr (labels.known, labels.are, result, same, by_listing, c.debug_end.ensures))

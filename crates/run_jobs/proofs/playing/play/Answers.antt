@@ -1,7 +1,7 @@
-use Rattle.std.proofs.Common.{◌≡◌, ◌∙◌, ap, false, inl, inr, map, refl, sym}
+use Rattle.std.proofs.Common.{◌≡◌, ◌∙◌, ap, false, inl, inr, map, refl, subst, sym}
 use Rattle.std.specs.List.{concat}
 use Rattle.run_jobs.proofs.Seated.{plays}
-use Rattle.run_jobs.specs.Playing.{codes_of, keys_of, seated}
+use Rattle.run_jobs.specs.Playing.{EndsPlay, codes_of, keys_of, seated}
 use Rattle.job_steps.specs.Reading.{reader_of}
 use Rattle.job_steps.specs.World.{world_of}
 use Rattle.screen_codes.specs.declared.codes.Pending.TheVariants.{Nothing}
@@ -28,7 +28,7 @@ returns-clause-ends g c =
     let output = c.into_streams-input.result.1 in
     let rest = c.into_streams-input.result.0 in
     let old = world_of (g.F.Files.folder host.files) (reader_of (g.I.Input.remaining host.input) (g.I.Input.failed host.input) (g.I.Input.reads host.input) (g.I.Input.interruptions host.input)) (g.W.Sink.stream host.output) (g.E.Sink.stream host.errors) in
-    let new = world_of (g.F.Files.folder c.end_play-status.new.files) (reader_of (g.I.Input.remaining rest) (g.I.Input.failed rest) (g.I.Input.reads rest) (g.I.Input.interruptions rest)) (g.W.Sink.stream output) (g.E.Sink.stream c.end_play-status.new.errors) in
+    let new = world_of (g.F.Files.folder c.end_play-status.new.files) (reader_of (g.I.Input.remaining rest) (g.I.Input.failed rest) (g.I.Input.reads rest) (g.I.Input.interruptions rest)) (g.W.Sink.stream c.flush.new.sink) (g.E.Sink.stream c.end_play-status.new.errors) in
     let before : seat_of desk.screen.codes desk.screen.pending desk.keys desk.is_leaving (g.I.Input.remaining desk.input) (g.W.Sink.stream desk.output).bytes ≡ seated job old =
     ap (λ (s : Screen). seat_of s.codes s.pending desk.keys desk.is_leaving (g.I.Input.remaining desk.input) (g.W.Sink.stream desk.output).bytes) c.new-desk.ensures.screen
     ∙ ap (λ k. seat_of k Nothing desk.keys desk.is_leaving (g.I.Input.remaining desk.input) (g.W.Sink.stream desk.output).bytes) c.codes_of.ensures
@@ -45,7 +45,8 @@ returns-clause-ends g c =
       recorded,
       claimed,
       c.in-Ok.ensures,
-      inr (plays job inputs recorded claimed old new c.end_play-status.result words c.unwrap_or-steps.result _ _ seat.screen.codes seat.screen.pending seat.keys seat.is_leaving played.end played.turns played.pc (concat played.image) played.arrivals.items
+      inr (plays job inputs recorded claimed old new c.end_play-status.result words c.unwrap_or-steps.result _ _ seat.screen.codes seat.screen.pending seat.keys seat.is_leaving (g.W.Sink.stream output) c.flush.result played.end played.turns played.pc (concat played.image) played.arrivals.items
           (ap (map (λ word. word.now)) c.deref.ensures.value) c.unwrap_or-steps.ensures before after
-          (c.run_session-played.ensures inputs.program.items words inputs.image.items inputs.typed.items c.in-Ok-ready_of.ensures) c.end_play-status.ensures),
+          (c.run_session-played.ensures inputs.program.items words inputs.image.items inputs.typed.items c.in-Ok-ready_of.ensures) c.flush.ensures
+          (subst (λ e. EndsPlay job inputs e played.turns played.pc (concat played.image) played.arrivals.items claimed new.folder old.errors new.errors c.end_play-status.result) c.end_at-end.ensures c.end_play-status.ensures)),
     )

@@ -1,16 +1,16 @@
-use Rattle.std.proofs.Common.{inl, inr, refl, [], ◌++◌, ◌∙◌}
-use Rattle.std.specs.Prelude.{codes}
+use Rattle.std.proofs.Common.{inl, inr, refl, ◌∙◌}
+use Rattle.streams.specs.Writing.{error_line}
 use Rattle.job_steps.proofs.Carried.{put_so}
 use Rattle.z80dev_jobs.proofs.dispatch.refuse_words.Goals as goal
 
 pub returns : goal.returns
 returns g c =
     let old = g.E.Sink.stream c.args.errors.now in
-    let new = g.E.Sink.stream c.put_all.new.sink in
+    let new = g.E.Sink.stream c.tell.new.sink in
     let kind = c.kind-2.ensures in
     let bytes = c.as_bytes-in_default-kind.result.now in
     inl (inr (
       (λ asks. elim asks [ inl h ↦ c.in_default-kind.not-DisplayHelp (kind ∙ h) | inr v ↦ c.in_default-kind.not-DisplayVersion (kind ∙ v) ]),
       (λ none. c.in_default-kind.not-OutOfMemory (kind ∙ none)),
-      (refl, refl, bytes ++ [], put_so old new (codes "error: " ++ bytes ++ []) c.put_all.result c.put_all.ensures),
+      (refl, refl, bytes, ?, put_so old new (error_line bytes) c.tell.result c.tell.ensures),
     ))
