@@ -8,3 +8,4 @@ mod Printed
 mod Cutting
 mod Leftovers
 mod OneRecord
+mod Debugged_so
