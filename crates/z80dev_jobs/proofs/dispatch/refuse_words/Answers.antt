@@ -1,4 +1,4 @@
-use Rattle.std.proofs.Common.{inl, inr, refl, ◌∙◌}
+use Rattle.std.proofs.Common.{inl, inr, refl, sym, ◌∙◌}
 use Rattle.streams.specs.Writing.{error_line}
 use Rattle.job_steps.proofs.Carried.{put_so}
 use Rattle.z80dev_jobs.proofs.dispatch.refuse_words.Goals as goal
@@ -12,5 +12,5 @@ returns g c =
     inl (inr (
       (λ asks. elim asks [ inl h ↦ c.in_default-kind.not-DisplayHelp (kind ∙ h) | inr v ↦ c.in_default-kind.not-DisplayVersion (kind ∙ v) ]),
       (λ none. c.in_default-kind.not-OutOfMemory (kind ∙ none)),
-      (refl, refl, bytes, ?, put_so old new (error_line bytes) c.tell.result c.tell.ensures),
+      (refl, refl, bytes, (λ none. c.reason_of.ensures (sym c.as_bytes-in_default-kind.ensures.value ∙ none)), put_so old new (error_line bytes) c.tell.result c.tell.ensures),
     ))

@@ -51,6 +51,6 @@ returns g c =
     let read_fronts = subst (λ paths. AllZip (IsRead old) (map (λ path. path.now) paths) fronts) c.deref.ensures.value c.in_ok-fronts.ensures.1 in
     let read = subst (λ paths. AllZip (IsRead mid) (map (λ path. path.now) paths) texts) c.deref-2.ensures.value c.in_ok-texts.ensures.1 in
     let read_then = subst (λ f. AllZip (IsRead f) (explained_paths job) texts) c.in_ok-fronts.ensures.0 read in
-    let explains = subst (λ all. Explains job (map (λ text. text.items) all) (map (λ text. text.items) c.deref-4.result.now) before after e) c.deref-3.ensures.value c.explain_texts.ensures in
-    let explains_so = subst (λ all. Explains job fronts (map (λ text. text.items) all) before after e) c.deref-4.ensures.value explains in
+    let explains = subst (λ all. Explains job c.args.is_terminal (map (λ text. text.items) all) (map (λ text. text.items) c.deref-4.result.now) before after e) c.deref-3.ensures.value c.explain_texts.ensures in
+    let explains_so = subst (λ all. Explains job c.args.is_terminal fronts (map (λ text. text.items) all) before after e) c.deref-4.ensures.value explains in
     inl (fronts, read_fronts, inl (texts, read_then, (c.in_ok-texts.ensures.0 ∙ c.in_ok-fronts.ensures.0, explains_so)))
