@@ -129,9 +129,9 @@ ReportsPlay lines (Ok written) end pc old new status = (mid : Stream) × (first 
 ReportsPlay lines (Err e) end pc old new status = (status ≡ end_status e) × Tells e old new
 
 -- how a session ended, once what a buffer held back is written out, or that failed
-abbrev pub end_at : PlayEnd → Result Unit WriteFailed → PlayEnd
-end_at end (Ok _) = end
-end_at end (Err _) = play.Failed
+abbrev pub flushed_end : PlayEnd → Result Unit WriteFailed → PlayEnd
+flushed_end end (Ok _) = end
+flushed_end end (Err _) = play.Failed
 
 abbrev pub EndsPlay : Play → Inputs → PlayEnd → ℕ → ℕ → List ℕ → List Arrival → Folder → Folder → Stream → Stream → ℕ → Type 0
 EndsPlay p inputs end turns pc image arrivals old new before after status =
@@ -156,7 +156,7 @@ Plays p inputs recorded claimed old new status =
     × (printed : Stream) × (flushed : Result Unit WriteFailed)
     × IsSession inputs.program.items (map (λ word. word.now) p.words.items) inputs.image.items (unwrap_or p.steps most_steps) recorded (seated p old)
     end turns pc image arrivals (seat_of whose pending keys is_leaving new.input.left printed.bytes)
-    × Hands_on printed new.output flushed × EndsPlay p inputs (end_at end flushed) turns pc image arrivals claimed new.folder old.errors new.errors status
+    × Hands_on printed new.output flushed × EndsPlay p inputs (flushed_end end flushed) turns pc image arrivals claimed new.folder old.errors new.errors status
 
 -- `play`: the files are read, and the program is played. Standard input is read only while it is.
 abbrev pub PlayEndsWith : Play → World → World → ℕ → Type 0

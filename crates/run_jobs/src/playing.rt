@@ -3,7 +3,7 @@
 ghost use Rattle.std.specs.Prelude.{◌≡◌, ◌≤◌, ℕ, IfOk, List, Vec, false, map, option_map, string_bytes, unwrap_or};
 ghost use Rattle.std.specs.List.{concat};
 ghost use Rattle.job_steps.specs.Reporting.{Judging};
-ghost use Rattle.run_jobs.specs.Playing.{ConcludesPlay, EndsPlay, IsSession, KeepsPlayed, PlayEndsWith, ReadsPlayed, ReadsRecord, ReadsSession, Records, ReportsPlay, bad_in_play, bad_record, bad_terminal, codes_named, codes_of, end_at, keys_of};
+ghost use Rattle.run_jobs.specs.Playing.{ConcludesPlay, EndsPlay, IsSession, KeepsPlayed, PlayEndsWith, ReadsPlayed, ReadsRecord, ReadsSession, Records, ReportsPlay, bad_in_play, bad_record, bad_terminal, codes_named, codes_of, flushed_end, keys_of};
 ghost use Rattle.z80dev_run.specs.Program.{IsReadyToRun};
 ghost use Rattle.run_jobs.specs.Private.Images.{IsFreeOf};
 ghost use Rattle.job_steps.specs.Reading.{reader_of};
@@ -233,8 +233,8 @@ fn report_play<E: Sink>(
 }
 
 /// How a session ended, once what a buffer held back is written out, or that failed.
-fn end_at(end: PlayEnd, flushed: Result<(), WriteFailed>) -> PlayEnd
-    ensures { result ≡ end_at end flushed }
+fn flushed_end(end: PlayEnd, flushed: Result<(), WriteFailed>) -> PlayEnd
+    ensures { result ≡ flushed_end end flushed }
 {
     match flushed {
         Ok(()) => end,
@@ -308,7 +308,7 @@ fn play<F: Files, I: Input, W: Sink + Drop, E: Sink>(
     let steps = job.steps.unwrap_or(u64::MAX);
     let played = run_session(alloc, ready, &recorded, &mut desk, steps);
     let (input, mut output) = desk.into_streams();
-    let end = end_at(played.end, flush(&mut output));
+    let end = flushed_end(played.end, flush(&mut output));
     let status = end_play(alloc, job, &inputs, &played, end, &mut files, &mut errors);
     let host = Host {
         files,

@@ -48,5 +48,5 @@ returns-clause-ends g c =
       inr (plays job inputs recorded claimed old new c.end_play-status.result words c.unwrap_or-steps.result _ _ seat.screen.codes seat.screen.pending seat.keys seat.is_leaving (g.W.Sink.stream output) c.flush.result played.end played.turns played.pc (concat played.image) played.arrivals.items
           (ap (map (λ word. word.now)) c.deref.ensures.value) c.unwrap_or-steps.ensures before after
           (c.run_session-played.ensures inputs.program.items words inputs.image.items inputs.typed.items c.in-Ok-ready_of.ensures) c.flush.ensures
-          (subst (λ e. EndsPlay job inputs e played.turns played.pc (concat played.image) played.arrivals.items claimed new.folder old.errors new.errors c.end_play-status.result) c.end_at-end.ensures c.end_play-status.ensures)),
+          (subst (λ e. EndsPlay job inputs e played.turns played.pc (concat played.image) played.arrivals.items claimed new.folder old.errors new.errors c.end_play-status.result) c.flushed_end-end.ensures c.end_play-status.ensures)),
     )
