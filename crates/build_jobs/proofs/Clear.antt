@@ -10,26 +10,22 @@ use Rattle.z80dev_finish.specs.Files.{Folder}
 use Rattle.z80dev_finish.specs.declared.answer.Kind.{Kind}
 use Rattle.z80dev_finish.specs.declared.end.End.{End}
 use Rattle.z80dev_finish.specs.declared.end.End.TheVariants as end
-use Rattle.build_jobs.specs.Making.{AreFiles, BuildsWith, UnlessRefused, shared_paths, source_paths}
-use Rattle.job_steps.specs.Ending.{Effect, NothingDone, WithAll, effect_of, EndsWithLines}
+use Rattle.build_jobs.specs.Making.{AreFiles, BuildsWith, shared_paths, source_paths}
+use Rattle.job_steps.specs.Ending.{Effect, IsClear, NothingDone, UnlessRefused, WithAll, effect_of, EndsWithLines}
 use Rattle.build_jobs.specs.Outputs.{why_not_written}
 use Rattle.z80dev_make.specs.Products.{program_kinds}
 use Rattle.build_jobs.specs.Products.{build_products}
-use Rattle.build_jobs.specs.Private.Steps.{BuildsTexts, IsClear}
+use Rattle.build_jobs.specs.Private.Steps.{BuildsTexts}
 use Rattle.job_steps.specs.Reading.{IsRead}
 use Rattle.shared_lines.specs.declared.front.SourceFile.{SourceFile}
-use Rattle.job_steps.proofs.Carried.{refuses}
-
-pub clear : (why : Option (List ℕ)) (Does : Type 0) (x : Effect) (e : End) → why ≡ None → Does → UnlessRefused why Does x e
-clear why Does x e none does = subst (λ w. UnlessRefused w Does x e) (sym none) does
+use Rattle.job_steps.proofs.Carried.{clear, unclear}
 
 -- memory ran out before a file was read
 pub lacking : (paths : List (List ℕ)) (Does : List (List ℕ) → Type 0) (x : Effect) (e : End) → e ≡ end.NoMemory → NothingDone x → WithAll paths Does x e
 lacking paths Does x e out nothing = inr (inr (out, nothing.0), nothing.1)
 
 pub refuses_or_lacks : (why : Option (List ℕ)) (paths : List (List ℕ)) (Does : List (List ℕ) → Type 0) (x : Effect) (e : End) → IsClear why (Err e) → NothingDone x → UnlessRefused why (WithAll paths Does x e) x e
-refuses_or_lacks None paths Does x e out nothing = lacking paths Does x e out nothing
-refuses_or_lacks (Some why) paths Does x e says nothing = refuses why x e says nothing
+refuses_or_lacks why paths Does x e is nothing = unclear why (WithAll paths Does x e) x e is nothing (λ out. lacking paths Does x e out nothing)
 
 -- ---- what was read
 

@@ -29,12 +29,7 @@ use Rattle.z80dev_make.specs.Warned.{AreModuleWarnings, AreWarnings}
 use Rattle.shared_lines.specs.declared.front.SourceFile.{SourceFile}
 use Rattle.shared_lines.specs.declared.front.Front.{Front}
 use Rattle.z80dev_make.specs.declared.jumps.Jumps.{Jumps}
-use Rattle.job_steps.specs.Ending.{Effect, Refuses, CarriesOut, With, WithAll, LinesAt}
-
--- If there is a reason why it may not write its files, the command refuses with it before it reads a file. Otherwise it continues.
-abbrev pub UnlessRefused : Option (List ℕ) → Type 0 → Effect → End → Type 0
-UnlessRefused None Does x e = Does
-UnlessRefused (Some why) Does x e = Refuses why x e
+use Rattle.job_steps.specs.Ending.{Effect, Refuses, CarriesOut, UnlessRefused, With, WithAll, LinesAt}
 
 -- ---- the commands
 

@@ -5,7 +5,7 @@ ghost use Rattle.std.specs.List.{list_any};
 ghost use Rattle.std.specs.Path.{slash};
 ghost use Rattle.z80dev_finish.specs.Paths.{is_same_path};
 ghost use Rattle.build_jobs.specs.Outputs.{base_of, begins_ending, ends_before_name, overwritten, why_not_written, without_ending};
-ghost use Rattle.build_jobs.specs.Private.Steps.{IsClear};
+ghost use Rattle.job_steps.specs.Ending.{IsClear};
 
 use std::alloc::{AllocError, Global};
 use z80dev::{End, Kind};

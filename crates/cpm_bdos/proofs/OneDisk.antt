@@ -10,11 +10,11 @@ use Rattle.cpm_directory.specs.declared.fault.DiskFault.{DiskFault}
 use Rattle.cpm_directory.specs.declared.fault.DiskFault.TheVariants as fault
 use Rattle.cpm_directory.specs.Letters.{letters}
 use Rattle.cpm_directory.specs.Rules.{IsSound}
-use Rattle.cpm_operations.specs.declared.placement.Placement.{Placement}
-use Rattle.cpm_operations.specs.Kept.{StaysSound}
-use Rattle.cpm_operations.specs.Steps.{after_erasure, after_renaming, creation, erasure, reading, renaming, writing}
-use Rattle.cpm_operations.proofs.Kept.{erasure_keeps}
-use Rattle.cpm_operations.proofs.Worth.{created, located, placed_soundly, renamed_soundly}
+use Rattle.cpm_disk.specs.declared.placement.Placement.{Placement}
+use Rattle.cpm_disk.specs.Kept.{StaysSound}
+use Rattle.cpm_disk.specs.Steps.{after_erasure, after_renaming, creation, erasure, reading, renaming, writing}
+use Rattle.cpm_disk.proofs.Kept.{erasure_keeps}
+use Rattle.cpm_disk.proofs.Worth.{created, located, placed_soundly, renamed_soundly}
 use Rattle.cpm_disk.specs.Calls.{Changed, HasOutcome, HasWritten, Mounted, Written}
 use Rattle.cpm_disk.specs.Image.{Image, IsOfBlock, IsOfDirectory, directory, disk_record}
 use Rattle.cpm_disk.specs.Operations.{IsCreated, IsErased, IsRecordRead, IsRecordWritten, IsRenamed}

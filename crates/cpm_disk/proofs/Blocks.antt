@@ -6,7 +6,7 @@ use Rattle.cpm_disk.proofs.Numbers.{beside_directory, of_block, record_below, on
 use Rattle.std.proofs.lemmas.Bool.{cases_eq}
 use Rattle.cpm_directory.specs.declared.entry.Entry.{Entry}
 use Rattle.cpm_directory.specs.Entries.{at}
-use Rattle.cpm_operations.specs.declared.placement.Placement.{Placement}
+use Rattle.cpm_disk.specs.declared.placement.Placement.{Placement}
 use Rattle.cpm_disk.specs.Private.Blocks.{Cleared, Prepared}
 use Rattle.cpm_disk.specs.Calls.{Changed, HasWritten, PartlyWritten, Written}
 use Rattle.cpm_disk.specs.Image.{Image, IsOfBlock, IsOfDirectory, SameBut, Wrote, directory, disk_record}

@@ -6,7 +6,7 @@ use Rattle.std.proofs.lemmas.List.{get_or_default, set-get_or}
 use Rattle.std.proofs.lemmas.List.Edits.{map_over_more}
 use Rattle.cpm_directory.specs.declared.entry.Entry.{Entry}
 use Rattle.cpm_directory.specs.Entries.{at, blank}
-use Rattle.cpm_operations.specs.Kept.{IsBetween}
+use Rattle.cpm_disk.specs.Kept.{IsBetween}
 use Rattle.cpm_disk.specs.declared.change.Change.{Change}
 use Rattle.cpm_disk.specs.Calls.{Changed, PartlyChanged}
 use Rattle.cpm_disk.specs.Private.Changes.{after}

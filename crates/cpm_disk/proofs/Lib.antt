@@ -1,17 +1,26 @@
-pub mod Numbers
-pub mod Chunks
-pub mod Places
-pub mod Outcomes
-pub mod Changes
-pub mod StillMounted
-pub mod Blocks
-pub mod Refusals
-pub mod EntryList
-pub mod Files
+pub mod Entries
+mod HighBits
+pub mod Kept
+mod Near
+mod Placements
+mod RecordPlaces
+pub mod Results
+mod Sound
+pub mod Worth
 pub mod Attributes
-pub mod Others
+mod Blocks
+mod Changes
+mod Chunks
+mod EntryList
+mod Files
 pub mod Maps
-pub mod Marking
-pub mod Written
-pub mod Stopped
-pub mod Remembered
+mod Marking
+mod Numbers
+mod Others
+mod Outcomes
+pub mod Places
+mod Refusals
+mod Remembered
+mod StillMounted
+mod Stopped
+mod Written

@@ -11,11 +11,11 @@ use Rattle.cpm_directory.specs.declared.entry.Entry.{Entry}
 use Rattle.cpm_directory.specs.Entries.{at, blank, block, block_numbers, extent_number, is_extent_of, is_match, is_of, is_read_only, is_system, marked, place_in_block, place_on_disk}
 use Rattle.cpm_directory.specs.Letters.{letters, name_matches}
 use Rattle.cpm_directory.specs.Rules.{IsSound}
-use Rattle.cpm_operations.proofs.Entries.{found_at, of_file}
-use Rattle.cpm_operations.proofs.HighBits.{high_set}
-use Rattle.cpm_operations.proofs.Kept.{IsSameButHigh, at_marking, same_but_high}
-use Rattle.cpm_operations.proofs.RecordPlaces.{place_within}
-use Rattle.cpm_operations.specs.Steps.{after_marking, marked_by}
+use Rattle.cpm_disk.proofs.Entries.{found_at, of_file}
+use Rattle.cpm_disk.proofs.HighBits.{high_set}
+use Rattle.cpm_disk.proofs.Kept.{IsSameButHigh, at_marking, same_but_high}
+use Rattle.cpm_disk.proofs.RecordPlaces.{place_within}
+use Rattle.cpm_disk.specs.Steps.{after_marking, marked_by}
 use Rattle.cpm_disk.specs.Calls.{Changed, PartlyChanged}
 use Rattle.cpm_disk.specs.Files.{IsMarkedFile, IsMatched, OthersAreSame, file_has, in_block, other_attribute}
 use Rattle.cpm_disk.specs.Image.{Image, directory, disk_record}

@@ -3,7 +3,7 @@ use Rattle.std.proofs.Common.{◌≡◌, ◌≢◌, ◌<◌, ◌≤◌, ◌/◌,
 use Rattle.cpm_image.specs.Kind.{block_count, block_records, directory_records, entry_count, first_block, record_count}
 use Rattle.cpm_image.specs.declared.kind.DiskKind.{DiskKind}
 use Rattle.cpm_disk.proofs.Numbers.{outside_directory, same_block}
-use Rattle.cpm_operations.proofs.RecordPlaces.{place_within}
+use Rattle.cpm_disk.proofs.RecordPlaces.{place_within}
 use Rattle.std.proofs.lemmas.Bool.{and_parts, cases_Bool, cases_eq}
 use Rattle.cpm_directory.specs.declared.entry.TheConstants.{USERS}
 use Rattle.cpm_directory.specs.declared.entry.Entry.{Entry}
@@ -12,12 +12,12 @@ use Rattle.cpm_directory.specs.Letters.{byte_matches, letters, name_matches}
 use Rattle.cpm_directory.specs.Rules.{IsSound}
 use Rattle.cpm_directory.specs.Searches.{free_entry, is_file}
 use Rattle.cpm_directory.specs.declared.fault.DiskFault.TheVariants as fault
-use Rattle.cpm_operations.proofs.Entries.{below_extent, is_of_file, letters_with, of_file}
-use Rattle.cpm_operations.proofs.Kept.{at_erasure, at_renaming, length_of_name}
-use Rattle.cpm_operations.specs.declared.placement.Placement.{Placement}
-use Rattle.cpm_operations.specs.Kept.{IsKeptBy, IsGoodPut}
-use Rattle.cpm_operations.specs.Steps.{◌>>=◌, after_erasure, after_renaming, creation, some_or, erased_by, renamed_by}
-use Rattle.cpm_operations.proofs.Results.{bind_ok, unless_ok}
+use Rattle.cpm_disk.proofs.Entries.{below_extent, is_of_file, letters_with, of_file}
+use Rattle.cpm_disk.proofs.Kept.{at_erasure, at_renaming, length_of_name}
+use Rattle.cpm_disk.specs.declared.placement.Placement.{Placement}
+use Rattle.cpm_disk.specs.Kept.{IsKeptBy, IsGoodPut}
+use Rattle.cpm_disk.specs.Steps.{◌>>=◌, after_erasure, after_renaming, creation, some_or, erased_by, renamed_by}
+use Rattle.cpm_disk.proofs.Results.{bind_ok, unless_ok}
 use Rattle.cpm_disk.specs.Calls.{Changed, PartlyChanged, PartlyWritten, Written}
 use Rattle.cpm_disk.specs.Files.{IsEither, IsFile, IsMatched, OthersAreSame, SameFile}
 use Rattle.cpm_disk.specs.Image.{Image, IsOfBlock, directory, disk_record}

@@ -3,8 +3,8 @@ use Rattle.std.proofs.Common.{◌≡◌, ◌%◌, ℕ, false, List, Result, Err,
 use Rattle.cpm_image.specs.Kind.{block_records}
 use Rattle.cpm_directory.specs.declared.fault.DiskFault.{DiskFault}
 use Rattle.cpm_directory.specs.declared.fault.DiskFault.TheVariants as fault
-use Rattle.cpm_operations.specs.Refusals.{RefusesWriting}
-use Rattle.cpm_operations.specs.Steps.{writing}
+use Rattle.cpm_disk.specs.Refusals.{RefusesWriting}
+use Rattle.cpm_disk.specs.Steps.{writing}
 use Rattle.cpm_disk.specs.Calls.{Mounted, HasOutcome, PartlyWritten, Written}
 use Rattle.cpm_disk.specs.Image.{Image, directory}
 use Rattle.cpm_disk.specs.Operations.{IsRecordWritten}

@@ -8,10 +8,10 @@ use Rattle.cpm_directory.specs.declared.fault.DiskFault.TheVariants as fault
 use Rattle.cpm_directory.specs.Entries.{block}
 use Rattle.cpm_directory.specs.Rules.{IsSound}
 use Rattle.cpm_directory.specs.Searches.{file_is_read_only, is_file}
-use Rattle.cpm_operations.specs.declared.placement.Placement.{Placement}
-use Rattle.cpm_operations.specs.Kept.{IsKeptBy}
-use Rattle.cpm_operations.specs.Steps.{placing, unless, writing}
-use Rattle.cpm_operations.proofs.Results.{unless_ok}
+use Rattle.cpm_disk.specs.declared.placement.Placement.{Placement}
+use Rattle.cpm_disk.specs.Kept.{IsKeptBy}
+use Rattle.cpm_disk.specs.Steps.{placing, unless, writing}
+use Rattle.cpm_disk.proofs.Results.{unless_ok}
 use Rattle.cpm_disk.specs.Calls.{Written}
 use Rattle.cpm_disk.specs.Image.{Image, directory}
 use Rattle.cpm_disk.proofs.Written.{record_written}

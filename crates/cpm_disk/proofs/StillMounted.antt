@@ -5,8 +5,8 @@ use Rattle.cpm_image.specs.declared.kind.DiskKind.{DiskKind}
 use Rattle.cpm_directory.specs.declared.entry.Entry.{Entry}
 use Rattle.cpm_directory.specs.Entries.{at}
 use Rattle.cpm_directory.specs.Searches.{file_is_read_only}
-use Rattle.cpm_operations.specs.declared.placement.Placement.{Placement}
-use Rattle.cpm_operations.specs.Kept.{IsBetween, IsKeptBy, StaysSound}
+use Rattle.cpm_disk.specs.declared.placement.Placement.{Placement}
+use Rattle.cpm_disk.specs.Kept.{IsBetween, IsKeptBy, StaysSound}
 use Rattle.cpm_disk.specs.Calls.{Changed, PartlyChanged, PartlyWritten, Written}
 use Rattle.cpm_disk.specs.Image.{Image, IsOfDirectory, SameBut, directory}
 use Rattle.cpm_disk.specs.Private.State.{IsMounted}

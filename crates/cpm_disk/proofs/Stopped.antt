@@ -10,10 +10,10 @@ use Rattle.cpm_directory.specs.declared.entry.TheConstants.{USERS}
 use Rattle.cpm_directory.specs.declared.entry.Entry.{Entry}
 use Rattle.cpm_directory.specs.Entries.{blocks_of, extent_number, at, blank, block, has_record, is_extent, is_extent_of, is_of, is_read_only, is_system}
 use Rattle.cpm_directory.specs.Rules.{IsSound}
-use Rattle.cpm_operations.proofs.Entries.{below_extent, found_at, of_file}
-use Rattle.cpm_operations.specs.declared.placement.Placement.{Placement}
-use Rattle.cpm_operations.specs.Kept.{IsBetween, IsKeptBy}
-use Rattle.cpm_operations.specs.Steps.{writing}
+use Rattle.cpm_disk.proofs.Entries.{below_extent, found_at, of_file}
+use Rattle.cpm_disk.specs.declared.placement.Placement.{Placement}
+use Rattle.cpm_disk.specs.Kept.{IsBetween, IsKeptBy}
+use Rattle.cpm_disk.specs.Steps.{writing}
 use Rattle.cpm_disk.specs.Calls.{HasWritten, PartlyWritten}
 use Rattle.cpm_disk.specs.Files.{HasRecord, HasSameRecords, in_block}
 use Rattle.cpm_disk.specs.Image.{Image, IsOfBlock, IsOfDirectory, SameBut, directory, disk_record}

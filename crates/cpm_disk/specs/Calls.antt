@@ -7,8 +7,8 @@ use Rattle.cpm_image.specs.declared.kind.DiskKind.{DiskKind}
 use Rattle.cpm_directory.specs.declared.entry.Entry.{Entry}
 use Rattle.cpm_directory.specs.declared.fault.DiskFault.{DiskFault}
 use Rattle.cpm_directory.specs.declared.fault.DiskFault.TheVariants as fault
-use Rattle.cpm_operations.specs.declared.placement.Placement.{Placement}
-use Rattle.cpm_operations.specs.Kept.{IsBetween}
+use Rattle.cpm_disk.specs.declared.placement.Placement.{Placement}
+use Rattle.cpm_disk.specs.Kept.{IsBetween}
 use Rattle.cpm_disk.specs.Image.{Image, IsOfBlock, IsOfDirectory, SameBut, directory, disk_record}
 
 -- A mounted disk: its device, its format, and whether the device has failed since it was mounted.

@@ -1,6 +1,10 @@
-pub mod Image
-pub mod Files
+pub mod Kept
+pub mod Near
+pub mod Refusals
+pub mod Steps
 pub mod Calls
-pub mod Operations
+pub mod Files
+pub mod Image
 pub mod Mounting
+pub mod Operations
 pub mod Private

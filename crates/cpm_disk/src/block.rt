@@ -7,10 +7,10 @@ ghost use Rattle.cpm_disk.specs.Private.Blocks.{Cleared, Prepared};
 ghost use Rattle.cpm_disk.specs.Calls.{HasWritten, PartlyWritten, Written};
 ghost use Rattle.cpm_disk.specs.Image.{IsOfBlock, SameBut, directory, disk_record};
 
+use crate::placement::Placement;
 use crate::records::{store, write_record};
 use cpm_directory::Entry;
 use cpm_image::{DeviceFault, DiskKind, LogicalRecord, RECORD_BYTES, Sectors};
-use cpm_operations::Placement;
 
 /// The logical record of the disk that is record `i` of a block.
 fn record_of(kind: DiskKind, block: u16, i: u32) -> LogicalRecord

@@ -8,6 +8,8 @@ ghost use Rattle.cpm_disk.specs.Calls.{Mounted};
 use crate::block::write_all;
 use crate::change::{Change, change_all};
 use crate::copying::image_copied;
+use crate::nearby::{extent_near, reading_at, writing_at};
+use crate::operations::{creation, erasure, marking, renaming};
 use crate::reader::read_entries;
 use crate::records::{read_record, store};
 use crate::writable::{Writable, is_known};
@@ -17,7 +19,6 @@ use cpm_directory::{
     list, position_of, size, space_of, usage_of,
 };
 use cpm_image::{BLANK, DiskKind, MemoryImage, RECORD_BYTES, Sectors};
-use cpm_operations::{creation, erasure, extent_near, marking, reading_at, renaming, writing_at};
 use std::alloc::{AllocError, Global};
 use std::marker::Model;
 
@@ -55,7 +56,7 @@ impl<S: Sectors> Disk<S> {
     ghost use Rattle.cpm_directory.specs.Letters.{name_matches};
     ghost use Rattle.cpm_directory.specs.Rules.{IsSound};
     ghost use Rattle.cpm_directory.specs.Searches.{found_from, no_space, no_usage, size, space_of, usage_of};
-    ghost use Rattle.cpm_operations.specs.Refusals.{RefusesCreation, RefusesErasure, RefusesMarking, RefusesReading, RefusesRenaming, RefusesWriting};
+    ghost use Rattle.cpm_disk.specs.Refusals.{RefusesCreation, RefusesErasure, RefusesMarking, RefusesReading, RefusesRenaming, RefusesWriting};
     ghost use Rattle.cpm_disk.specs.Calls.{FailsOr};
     ghost use Rattle.cpm_disk.specs.Files.{HasRecord, HasSameRecords, IsEither, IsFile, IsMarkedFile, IsMatched, IsMoved, IsNewFile, IsNoFile, OthersAreSame, file_record};
     ghost use Rattle.cpm_disk.specs.Image.{directory};

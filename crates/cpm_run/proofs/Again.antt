@@ -359,7 +359,7 @@ module _ {S : Type 0} (sectors : S → Image) (faults : S → ℕ) (one_step : O
       let starts : first_state k.0 k.1 other ≡ first_state h.0 h.1 other = ap (λ c. first_state c k.1 other) cpus ∙ ap (λ m. first_state h.0 m other) memories in
       let ended = replayed_well sectors faults one_step h.0 h.1 disk other disks limit turns cause b quiet (subst (λ (s : PlayState S). ReplayEnds sectors faults limit turns s cause b) starts k.4) in
       let order = bytes_in_order sectors faults file words disk left limit turns pc before after end arrivals (inl h) in
-      let follows = k.11 order in
+      let follows = k.12 order in
       let f : FollowsRecord a.arrivals a.turns b.turns b.arrivals =
       subst (λ l. FollowsRecord a.arrivals a.turns b.turns l) k.9 (subst (λ n. FollowsRecord a.arrivals a.turns n came) k.5 (subst (λ n. FollowsRecord a.arrivals n steps came) h.5 (subst (λ l. FollowsRecord l turns steps came) h.9 follows.0))) in
       let both = one_end sectors faults one_step h.0 h.1 disk other disks limit end cause a b (played_well sectors faults one_step h.0 h.1 disk other disks limit end a calm h.4) ended.0 (λ e. subst (λ n. n ≤ b.turns) h.5 (ended.1 e))

@@ -3,7 +3,7 @@ use Rattle.std.proofs.Common.{◌≡◌, ◌≢◌, ◌≤◌, ◌+◌, ◌∷�
 use Rattle.std.proofs.lemmas.Bool.{eqb-true}
 use Rattle.std.specs.Prelude.{◌==◌, if◌then◌else◌}
 use Rattle.z80_cpu.specs.declared.registers.Cpu.{Cpu}
-use Rattle.cpm_console.specs.Dialog.{Dialog}
+use Rattle.cpm_console.specs.Dialog.{Dialog, put_by}
 use Rattle.cpm_console.specs.Line.{Ending, NoInput, Stored, WarmBoot, typed_line}
 use Rattle.cpm_console.specs.Screen.{screen}
 use Rattle.cpm_fcb.specs.declared.stop.Stop.TheVariants as stop
@@ -14,7 +14,7 @@ use Rattle.cpm_bdos.specs.declared.function.BiosEntry.TheVariants as bios
 use Rattle.cpm_bdos.specs.declared.function.ConsoleCall.TheVariants as console
 use Rattle.cpm_bdos.specs.declared.function.Function.{Function}
 use Rattle.cpm_bdos.specs.declared.function.Function.TheVariants as function
-use Rattle.cpm_run.specs.Looks.{Attention, CallLacks, EntryLacks, LacksAt, LacksInput, MayStep, TakesLine, call_patience, entry_patience, last_after, line_room, patience_at, patience_of}
+use Rattle.cpm_run.specs.Looks.{Attention, CallLacks, EntryLacks, HoldsFew, LacksAt, LacksInput, MayStep, TakesLine, call_echo, call_patience, echo_at, entry_patience, line_room, next_echo, patience_at, patience_of}
 use Rattle.cpm_run.specs.Turns.{Call, Entry, Place, Program, RunState, bdos, bios_entry, entry_or_program, place_at_pc}
 use Rattle.cpm_run.specs.declared.station.Patience.{Patience}
 use Rattle.cpm_run.specs.declared.station.Patience.TheVariants as how
@@ -51,7 +51,7 @@ waits r lacks = waits_at (place_at_pc r.machine.cpu.pc) r lacks
 
 -- ---- a line
 
-takes_at : (cpu : Cpu) → TakesLine cpu → place_at_pc cpu.pc ≡ Call
+pub takes_at : (cpu : Cpu) → TakesLine cpu → place_at_pc cpu.pc ≡ Call
 takes_at cpu takes = ap place_at_pc takes.0
 
 pub line_waits : (cpu : Cpu) → TakesLine cpu → patience_of cpu ≡ how.Wait
@@ -117,20 +117,55 @@ byte_lacks r is other = by_place (r.machine.cpu.pc == bdos) (λ at. eqb-true r.m
   by_place true known here = call_byte (function_of r.machine.cpu.main.c) r.machine.cpu.main.e r here (λ f. other (known refl, f))
   by_place false known here = entry_at (bios_entry r.machine.cpu.pc) r here
 
+-- ---- the echo of a line
+
+pub line_echo : {S : Type 0} (r : RunState S Dialog) → TakesLine r.machine.cpu → next_echo r ≡ put_by (typed_line (line_room r) (screen (λ (d : Dialog). d) r.system.terminal)).events
+line_echo r takes = ap (λ p. echo_at p r) (takes_at r.machine.cpu takes) ∙ ap (λ f. call_echo f r) takes.1
+
+other_call : {S : Type 0} (f : Option Function) (r : RunState S Dialog) → f ≢ Some (function.Console console.ReadLine) → call_echo f r ≡ []
+other_call None r other = refl
+other_call (Some function.SystemReset) r other = refl
+other_call (Some (function.Console console.Input)) r other = refl
+other_call (Some (function.Console console.Output)) r other = refl
+other_call (Some (function.Console console.Direct)) r other = refl
+other_call (Some (function.Console console.PrintString)) r other = refl
+other_call (Some (function.Console console.ReadLine)) r other = absurd (other refl)
+other_call (Some (function.Console console.Status)) r other = refl
+other_call (Some (function.Setting call)) r other = refl
+other_call (Some (function.Search call)) r other = refl
+other_call (Some (function.File call)) r other = refl
+other_call (Some (function.Record call)) r other = refl
+
+other_entry : {S : Type 0} (entry : Option ℕ) (r : RunState S Dialog) → echo_at (entry_or_program entry) r ≡ []
+other_entry None r = refl
+other_entry (Some n) r = refl
+
+-- before a step that takes no line there is no echo
+pub no_echo : {S : Type 0} (r : RunState S Dialog) → ¬ TakesLine r.machine.cpu → next_echo r ≡ []
+no_echo r other = by_place (r.machine.cpu.pc == bdos) (λ at. eqb-true r.machine.cpu.pc bdos at) where
+  by_place : (at : Bool) → (at ≡ true → r.machine.cpu.pc ≡ bdos) → echo_at (if at then Call else entry_or_program (bios_entry r.machine.cpu.pc)) r ≡ []
+  by_place true known = other_call (function_of r.machine.cpu.main.c) r (λ f. other (known refl, f))
+  by_place false known = other_entry (bios_entry r.machine.cpu.pc) r
+
 -- ---- steps that may be made
 
+polls : (patience : Patience) → patience ≢ how.Wait → patience ≢ how.Glance → patience ≡ how.Poll
+polls how.Glance other asks = absurd (asks refl)
+polls how.Poll other asks = refl
+polls how.Wait other asks = absurd (other refl)
+
 -- a step that waits for nothing
-pub may_step : {S : Type 0} (r : RunState S Dialog) (turns : ℕ) (a : Attention) → patience_of r.machine.cpu ≢ how.Wait → (patience_of r.machine.cpu ≡ how.Poll → a.here ≡ true) → turns ≤ a.last + 4000000 → MayStep r turns a
-may_step r turns a other polled soon = record { fed = λ lacks. absurd (other (waits r lacks)); polled = polled; soon = soon }
+pub may_step : {S : Type 0} (r : RunState S Dialog) (turns : ℕ) (a : Attention) → patience_of r.machine.cpu ≢ how.Wait → (patience_of r.machine.cpu ≡ how.Poll → a.here ≡ true)
+    → (patience_of r.machine.cpu ≡ how.Poll → r.system.terminal.console.output ≡ Some []) → turns ≤ a.last + 4000000 → HoldsFew r → MayStep r turns a
+may_step r turns a other polled shown soon held = record {
+  fed = λ lacks. absurd (other (waits r lacks));
+  polled = polled;
+  shown = λ asks. shown (polls (patience_of r.machine.cpu) other asks);
+  soon = soon;
+  held = held;
+}
 
 -- a step that waits, and has its input
-pub may_take : {S : Type 0} (r : RunState S Dialog) (turns : ℕ) (a : Attention) → patience_of r.machine.cpu ≡ how.Wait → (LacksInput r → a.ended ≡ true) → turns ≤ a.last + 4000000 → MayStep r turns a
-may_take r turns a is fed soon = record { fed = fed; polled = λ e. absurd (let no : how.Wait ≡ how.Poll = sym is ∙ e in cc); soon = soon }
-
-pub last_waited : (patience : Patience) (turns last : ℕ) → patience ≡ how.Wait → last_after patience turns last ≡ turns
-last_waited patience turns last is = ap (λ p. last_after p turns last) is
-
-pub last_kept : (patience : Patience) (turns last : ℕ) → patience ≢ how.Wait → last_after patience turns last ≡ last
-last_kept how.Wait turns last other = absurd (other refl)
-last_kept how.Poll turns last other = refl
-last_kept how.Glance turns last other = refl
+pub may_take : {S : Type 0} (r : RunState S Dialog) (turns : ℕ) (a : Attention) → patience_of r.machine.cpu ≡ how.Wait → (LacksInput r → a.ended ≡ true) → r.system.terminal.console.output ≡ Some [] → turns ≤ a.last + 4000000 → HoldsFew r
+    → MayStep r turns a
+may_take r turns a is fed all soon held = record { fed = fed; polled = λ e. absurd (let no : how.Wait ≡ how.Poll = sym is ∙ e in cc); shown = λ asks. all; soon = soon; held = held }

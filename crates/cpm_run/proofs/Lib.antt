@@ -4,6 +4,10 @@ mod Walked
 mod Going
 mod Asked
 mod Lacking
+mod Lacked
+mod Growing
+mod Grown
+mod Waiting
 mod Looking
 mod Sitting
 mod Replayed

@@ -1,5 +1,5 @@
 -- How a session follows a record.
-use Rattle.std.proofs.Common.{◌≡◌, ◌<◌, ◌≤◌, ◌+◌, ◌++◌, ◌∷◌, [], ℕ, true, false, List, Option, None, Some, Result, Ok, Err, length, slice_get, take, refl, sym, ap, ◌∙◌, arith}
+use Rattle.std.proofs.Common.{◌≡◌, ◌≢◌, ◌<◌, ◌≤◌, ◌+◌, ◌++◌, ◌∷◌, [], ℕ, true, false, List, Option, None, Some, Result, Ok, Err, length, slice_get, take, refl, sym, ap, ◌∙◌, arith, length-append}
 use Rattle.std.proofs.lemmas.List.{take_more}
 use Rattle.std.proofs.lemmas.Option.{slice_get-get_or, slice_get_past}
 use Rattle.std.specs.Prelude.{get_or, min}
@@ -10,8 +10,9 @@ use Rattle.cpm_run.specs.declared.arriving.PlayEnd.{PlayEnd}
 use Rattle.cpm_run.specs.declared.arriving.PlayEnd.TheVariants as play
 use Rattle.cpm_run.specs.declared.playing.state.Playing.{Playing}
 use Rattle.cpm_run.specs.Play.{FollowsRecord, IsInOrder, IsShownAgain, PlayState, arrived}
-use Rattle.cpm_run.specs.Private.Playing.{HasShown, IsUnasked, Repeats, RepeatsTo, taken}
+use Rattle.cpm_run.specs.Private.Playing.{HasShown, IsQuiet, IsRefused, IsUnasked, Repeats, RepeatsTo, WasRefused, taken}
 use Rattle.cpm_run.specs.Seat.{Seat}
+use Rattle.cpm_run.proofs.Looking.{more_events}
 
 -- the default for a place outside of the record
 abbrev pub no_arrival : Arrival
@@ -71,6 +72,10 @@ pub taken_all : {E : Type 0} (turns : ℕ) (bytes : List ℕ) (r : Result Unit E
 taken_all turns bytes (Ok done) arrivals is = refl
 taken_all turns bytes (Err e) arrivals is = absurd (let no : true ≡ false = is in cc)
 
+-- one more byte came
+pub one_came : (turns byte : ℕ) (arrivals all : List Arrival) → all ≡ arrivals ++ arrived turns (byte ∷ []) → length all ≡ length arrivals + 1
+one_came turns byte arrivals all is = ap length is ∙ length-append arrivals (arrived turns (byte ∷ []))
+
 -- the number of steps at which a byte comes
 pub in_time : (time limit target turns : ℕ) → target ≡ min time limit → target ≤ turns → turns ≤ target → turns < limit → turns ≡ time
 in_time time limit target turns is least most below = omega (arith, is, least, most, below)
@@ -84,9 +89,19 @@ module _ {S : Type 0} (sectors : S → Image) (faults : S → ℕ) where
 
 -- nobody was asked, and all was shown
 pub shown_again : {S : Type 0} (end : PlayEnd) (before mid after : Seat) (new : PlayState S) (bytes : List ℕ) → IsUnasked before mid → IsUnasked mid after → new.run.system.terminal.console.output ≡ Some bytes
-    → HasShown before after new.shown bytes → IsShownAgain end before after new
-shown_again end before mid after new bytes first then put seen = record { coming = then.coming ∙ first.coming; leaves = then.leaves ∙ first.leaves; looks = then.looks ∙ first.looks; all = λ _. (bytes, put, seen) }
+    → HasShown before after new.shown bytes → end ≢ play.Failed → IsShownAgain end before after new
+shown_again end before mid after new bytes first then put seen other =
+    record { coming = then.coming ∙ first.coming; leaves = then.leaves ∙ first.leaves; looks = then.looks ∙ first.looks; all = λ _. (bytes, put, seen); failed = λ is. absurd (other is) }
 
 -- nobody was asked, and the screen failed
-pub failed_again : {S : Type 0} (before mid after : Seat) (new : PlayState S) → IsUnasked before mid → IsUnasked mid after → IsShownAgain play.Failed before after new
-failed_again before mid after new first then = record { coming = then.coming ∙ first.coming; leaves = then.leaves ∙ first.leaves; looks = then.looks ∙ first.looks; all = λ other. absurd (other refl) }
+pub failed_again : {S : Type 0} (before mid after : Seat) (new : PlayState S) → IsUnasked before mid → IsUnasked mid after → WasRefused before after → IsShownAgain play.Failed before after new
+failed_again before mid after new first then refused =
+    record { coming = then.coming ∙ first.coming; leaves = then.leaves ∙ first.leaves; looks = then.looks ∙ first.looks; all = λ other. absurd (other refl); failed = λ is. refused }
+
+-- nothing was shown
+pub quiet_still : {S : Type 0} (before after : Seat) (p q : Playing S) → q.ahead.items ≡ p.ahead.items → IsQuiet before p after → IsQuiet before q after
+quiet_still before after p q same quiet = record { none = same ∙ quiet.none; events = quiet.events; told = quiet.told }
+
+-- the last of what was put was not shown
+pub refused_last : {S : Type 0} (before mid after : Seat) (p : Playing S) → IsQuiet before p mid → IsRefused mid after → WasRefused before after
+refused_last before mid after p quiet (bytes, noted) = (quiet.events, bytes, more_events quiet.events _ before.events mid.events after.events quiet.told noted)

@@ -27,7 +27,7 @@ use Rattle.cpm_run.specs.declared.arriving.Arrival.{Arrival}
 use Rattle.cpm_run.specs.declared.arriving.PlayEnd.{PlayEnd}
 use Rattle.cpm_run.specs.declared.arriving.PlayEnd.TheVariants as play
 use Rattle.cpm_run.specs.declared.playing.state.Playing.{Playing}
-use Rattle.cpm_run.specs.Private.Playing.{Begins, Continues, Ends, HasHeard, HasShown, IsBetween, IsBroken, IsLeftBy, IsOver, IsStill, IsUnasked, SoFar, Stands, Waits, WaitsOn, Went, state_of}
+use Rattle.cpm_run.specs.Private.Playing.{Begins, Continues, Ends, HasHeard, HasShown, IsBetween, IsBroken, IsLeftBy, IsOver, IsStill, IsUnasked, MakesNoStep, SoFar, Stands, Waits, WaitsOn, Went, state_of}
 use Rattle.cpm_run.proofs.Going.{Pauses, at, go_on, step_is_turn, system, turn_as, unwatched}
 
 -- the screen has got bytes that were shown ahead, and then the rest of what was put
@@ -136,6 +136,16 @@ none_before n arrivals empty = λ k one here. absurd (let nothing : ◌≡◌ {A
 -- two calls that make no step
 pub still : {S : Type 0} (old mid new : Playing S) → IsStill old mid → IsStill mid new → IsStill old new
 still old mid new first then = record { cpu = then.cpu ∙ first.cpu; turns = then.turns ∙ first.turns; looked = then.looked ∙ first.looked }
+
+pub still_there : {S : Type 0} (old new : Playing S) → IsStill old new → MakesNoStep old new
+still_there old new is = record { cpu = is.cpu; turns = is.turns; looked = λ past. (let same = is.looked in omega (arith, same), let same = is.looked in let turns = is.turns in omega (arith, same, turns, past)) }
+
+pub no_step : {S : Type 0} (old mid new : Playing S) → MakesNoStep old mid → MakesNoStep mid new → MakesNoStep old new
+no_step old mid new first then = record {
+  cpu = then.cpu ∙ first.cpu;
+  turns = then.turns ∙ first.turns;
+  looked = λ past. let one = first.looked past in let two = then.looked one.1 in (omega (arith, one.0, two.0), two.1);
+}
 
 -- the same step is still to be made
 pub between_kept : {S : Type 0} (limit : ℕ) (p q : Playing S) → q.cpu ≡ p.cpu → q.turns ≡ p.turns → IsBetween limit p → IsBetween limit q

@@ -1,8 +1,8 @@
--- How a session asks the keyboard, and when.
-use Rattle.std.specs.Prelude.{◌≡◌, ◌≤◌, ◌+◌, ◌++◌, ◌∷◌, ◌==◌, ℕ, Bool, true, false, List, [], Option, Some, Err, if◌then◌else◌}
+-- When a session looks at the keyboard, and when it shows what was put.
+use Rattle.std.specs.Prelude.{◌≡◌, ◌≢◌, ◌<◌, ◌≤◌, ◌+◌, ◌++◌, ◌∷◌, ◌==◌, ℕ, Bool, true, false, IfSome, List, [], Option, Some, Result, Ok, Err, if◌then◌else◌, length}
 use Rattle.z80_cpu.specs.State.{de}
 use Rattle.z80_cpu.specs.declared.registers.Cpu.{Cpu}
-use Rattle.cpm_console.specs.Dialog.{Dialog}
+use Rattle.cpm_console.specs.Dialog.{Dialog, put_by}
 use Rattle.cpm_console.specs.Line.{NoInput, typed_line}
 use Rattle.cpm_console.specs.Screen.{screen}
 use Rattle.cpm_fcb.specs.Bytes.{memory_byte}
@@ -14,10 +14,13 @@ use Rattle.cpm_bdos.specs.declared.function.BiosEntry.TheVariants as bios
 use Rattle.cpm_bdos.specs.declared.function.ConsoleCall.TheVariants as console
 use Rattle.cpm_bdos.specs.declared.function.Function.{Function}
 use Rattle.cpm_bdos.specs.declared.function.Function.TheVariants as function
-use Rattle.cpm_run.specs.Seat.{Look}
+use Rattle.cpm_run.specs.Seat.{SeatEvent}
 use Rattle.cpm_run.specs.Turns.{Call, Entry, Place, Program, RunState, bdos, place_at_pc}
+use Rattle.cpm_run.specs.declared.station.Came.{Came}
+use Rattle.cpm_run.specs.declared.station.Came.TheVariants as came
 use Rattle.cpm_run.specs.declared.station.Patience.{Patience}
 use Rattle.cpm_run.specs.declared.station.Patience.TheVariants as how
+use Rattle.cpm_run.specs.declared.station.StationFault.{StationFault}
 
 -- How the keyboard is asked before a call with this byte in E: functions 1 and 10 wait for what they take; function 11, and function 6 with 255 in
 -- E, take what has come. Before any other call nobody waits.
@@ -68,38 +71,81 @@ LacksAt Program r = ⊥
 abbrev pub LacksInput : {S : Type 0} → RunState S Dialog → Type 0
 LacksInput r = LacksAt (place_at_pc r.machine.cpu.pc) r
 
--- What a session has done at the keyboard: its looks; the number of steps before the last of them, or before the last step that takes a byte or a
--- line, if that is later; whether it has looked since the last step; and whether the last look said that no key will ever come.
+-- The echo of a line that is being typed, which is shown before function 10 puts it: what the function would put for the bytes that are there. Before
+-- any other step there is none.
+abbrev pub call_echo : {S : Type 0} → Option Function → RunState S Dialog → List ℕ
+call_echo (Some (function.Console console.ReadLine)) r = put_by (typed_line (line_room r) (screen (λ d. d) r.system.terminal)).events
+call_echo _ r = []
+
+abbrev pub echo_at : {S : Type 0} → Place → RunState S Dialog → List ℕ
+echo_at Call r = call_echo (function_of r.machine.cpu.main.c) r
+echo_at _ r = []
+
+abbrev pub next_echo : {S : Type 0} → RunState S Dialog → List ℕ
+next_echo r = echo_at (place_at_pc r.machine.cpu.pc) r
+
+-- What a session has seen so far: what happened at the keyboard and the screen; the echo that is shown and that the program has not put yet; the
+-- number of steps before the last look at the keyboard; whether it has looked since the last step; and whether the last look said that no key will
+-- ever come.
 pub record Attention : Type 0 where
-  pub looks : List Look
+  pub events : List SeatEvent
+  pub ahead : List ℕ
   pub last : ℕ
   pub here : Bool
   pub ended : Bool
 
 abbrev pub unlooked : Attention
-unlooked = record { looks = []; last = 0; here = false; ended = false }
+unlooked = record { events = []; ahead = []; last = 0; here = false; ended = false }
 
--- When the keyboard may be asked in this way. It waits only if the next step would stop for want of input, and a key may still come. It polls once
--- before each step that takes what has come. It glances only 2,000,000 steps after it last attended to the keyboard.
-abbrev pub MayLook : {S : Type 0} → Patience → RunState S Dialog → ℕ → Attention → Type 0
-MayLook how.Wait r turns a = LacksInput r × (a.ended ≡ false)
-MayLook how.Poll r turns a = a.here ≡ false
-MayLook how.Glance r turns a = a.last + 2000000 ≤ turns
+-- When a look is due. It waits only if the next step would stop for want of input, and a key may still come. It polls once before each step that
+-- takes what has come. Before any other step it glances, but only 2,000,000 steps or more after the last look.
+abbrev pub IsLookDue : {S : Type 0} → Patience → RunState S Dialog → ℕ → Attention → Type 0
+IsLookDue how.Wait r turns a = LacksInput r × (a.ended ≡ false)
+IsLookDue how.Poll r turns a = (patience_of r.machine.cpu ≡ how.Poll) × (a.here ≡ false)
+IsLookDue how.Glance r turns a = (patience_of r.machine.cpu ≢ how.Poll) × (a.last + 2000000 ≤ turns)
+
+-- the echo that is shown before a look: that of the line for which it waits
+abbrev pub echo_before : {S : Type 0} → Patience → RunState S Dialog → List ℕ
+echo_before how.Wait r = next_echo r
+echo_before _ r = []
+
+-- How many of these looks waited after this number of steps. Each was made because the next step lacked input.
+abbrev pub waits_after : ℕ → List SeatEvent → ℕ
+waits_after turns [] = 0
+waits_after turns (SeatEvent.asked n how.Wait answer ∷ more) = (if n == turns then 1 else 0) + waits_after turns more
+waits_after turns (_ ∷ more) = waits_after turns more
+
+-- When the keyboard may be asked in this way: if the look is due, and all that the program has put is shown, and the echo of the line.
+pub record MayLook {S : Type 0} (patience : Patience) (r : RunState S Dialog) (turns : ℕ) (a : Attention) : Type 0 where
+  pub due : IsLookDue patience r turns a
+  pub all : r.system.terminal.console.output ≡ Some []
+  pub echo : a.ahead ≡ echo_before patience r
+
+-- Fewer than 4,096 bytes are put and not shown yet, as far as that is known.
+abbrev pub HoldsFew : {S : Type 0} → RunState S Dialog → Type 0
+HoldsFew r = IfSome r.system.terminal.console.output (λ bytes. length bytes < 4096)
 
 -- When the next step may be made. It has the input that it takes, unless no key will come; if it takes what has come, the keyboard was polled
--- before it; and the keyboard was attended to at most 4,000,000 steps ago.
+-- before it; if it takes a byte or a line, or what has come, all is shown that the program has put; the last look was at most 4,000,000 steps ago;
+-- and not much is put that is not shown.
 pub record MayStep {S : Type 0} (r : RunState S Dialog) (turns : ℕ) (a : Attention) : Type 0 where
   pub fed : LacksInput r → a.ended ≡ true
   pub polled : patience_of r.machine.cpu ≡ how.Poll → a.here ≡ true
+  pub shown : patience_of r.machine.cpu ≢ how.Glance → r.system.terminal.console.output ≡ Some []
   pub soon : turns ≤ a.last + 4000000
+  pub held : HoldsFew r
 
-abbrev pub after_look : Patience → ℕ → Bool → Attention → Attention
-after_look patience turns ended a = record { looks = a.looks ++ record { turns = turns; patience = patience } ∷ []; last = turns; here = true; ended = ended }
+-- The keyboard answered that no key will ever come.
+abbrev pub says_end : Result Came StationFault → Bool
+says_end (Ok came.End) = true
+says_end _ = false
 
-abbrev pub last_after : Patience → ℕ → ℕ → ℕ
-last_after how.Wait turns last = turns
-last_after how.Poll turns last = last
-last_after how.Glance turns last = last
+abbrev pub after_look : ℕ → Patience → Result Came StationFault → Attention → Attention
+after_look turns patience answer a = record { events = a.events ++ SeatEvent.asked turns patience answer ∷ []; ahead = a.ahead; last = turns; here = true; ended = says_end answer }
 
-abbrev pub after_step : Patience → ℕ → Attention → Attention
-after_step patience turns a = record a { last = last_after patience turns a.last; here = false }
+abbrev pub after_step : Attention → Attention
+after_step a = record a { here = false }
+
+-- once these bytes are shown, with this echo ahead of the program
+abbrev pub after_show : List ℕ → List ℕ → Attention → Attention
+after_show bytes ahead a = record a { events = a.events ++ SeatEvent.showed bytes ∷ []; ahead = ahead }

@@ -1,12 +1,10 @@
 -- A session at a keyboard: a run to which bytes come between its steps.
-use Rattle.std.specs.Prelude.{◌≡◌, ◌≢◌, ◌<◌, ◌≤◌, ◌+◌, ◌++◌, ◌∷◌, ◌⊎◌, ℕ, Bool, true, false, IfSome, List, [], None, Some, Ok, Err, map, slice_get, take}
+use Rattle.std.specs.Prelude.{◌≡◌, ◌≢◌, ◌<◌, ◌≤◌, ◌+◌, ◌++◌, ◌∷◌, ◌⊎◌, ℕ, true, false, IfSome, List, [], None, Some, Result, Ok, Err, length, map, min, option_map, slice_get, take}
 use Rattle.std.specs.Io.{StartsWith}
 use Rattle.std.specs.Io.KnownBytes.{Consumes, IsAtEnd, Keeps}
 use Rattle.z80_cpu.specs.State.{machine}
 use Rattle.z80_cpu.specs.declared.registers.Cpu.{Cpu}
-use Rattle.cpm_console.specs.Dialog.{Dialog, output_cleared, dialog_of, put_by, typed_in}
-use Rattle.cpm_console.specs.Line.{typed_line}
-use Rattle.cpm_console.specs.Screen.{screen}
+use Rattle.cpm_console.specs.Dialog.{Dialog, output_cleared, dialog_of, typed_in}
 use Rattle.cpm_disk.specs.Calls.{Mounted}
 use Rattle.cpm_disk.specs.Image.{Image}
 use Rattle.cpm_fcb.specs.declared.stop.Stop.TheVariants as stop
@@ -17,9 +15,13 @@ use Rattle.cpm_run.specs.declared.fault.StartFault.{StartFault}
 use Rattle.cpm_run.specs.declared.arriving.Arrival.{Arrival}
 use Rattle.cpm_run.specs.declared.arriving.PlayEnd.{PlayEnd}
 use Rattle.cpm_run.specs.declared.arriving.PlayEnd.TheVariants as play
-use Rattle.cpm_run.specs.Looks.{Attention, MayLook, MayStep, TakesLine, after_look, after_step, line_room, patience_of, unlooked}
+use Rattle.cpm_run.specs.declared.station.Came.{Came}
+use Rattle.cpm_run.specs.declared.station.Came.TheVariants as said
+use Rattle.cpm_run.specs.declared.station.Patience.{Patience}
+use Rattle.cpm_run.specs.declared.station.StationFault.{StationFault}
+use Rattle.cpm_run.specs.Looks.{Attention, MayLook, MayStep, TakesLine, after_look, after_show, after_step, next_echo, unlooked, waits_after}
 use Rattle.cpm_run.specs.Run.{unstarted}
-use Rattle.cpm_run.specs.Seat.{Look, Seat, with_looks}
+use Rattle.cpm_run.specs.Seat.{Seat, SeatEvent, looks_in, with_events}
 use Rattle.cpm_run.specs.Start.{IsStart}
 use Rattle.cpm_run.specs.Turns.{Goes, IsTurn, RunState, is_finished}
 
@@ -74,31 +76,79 @@ PlayEnds sectors faults limit start (play.Run end) new = PlayedRunEnds sectors f
 PlayEnds sectors faults limit start play.Failed new = PlaysOn sectors faults start new ⊎ ((end : Why) × PlayedRunEnds sectors faults limit start end new)
 PlayEnds sectors faults limit start _ new = EndsBetween sectors faults limit start new
 
--- How a session continues at a keyboard, with its looks: a look is made before a step, as that step asks for it, and bytes come with it, or none;
--- a step is made, which does not end the run; or what the program has put is shown.
+-- These bytes come with what the keyboard answers, which has room for 256. With any other answer the session ends.
+abbrev pub CameWith : Result Came StationFault → List ℕ → Type 0
+CameWith (Ok (said.Bytes count)) bytes = length bytes ≡ min count 256
+CameWith (Ok said.End) bytes = bytes ≡ []
+CameWith _ bytes = ⊥
+
+-- How a session continues at a keyboard and a screen, with what happens there: a look is made before a step, and bytes come with it, or none; a step
+-- is made, which does not end the run; what the program has put is shown, without the echo that is shown already; or more of that echo is shown.
 pub data Attends {S : Type 0} (sectors : S → Image) (faults : S → ℕ) (start : PlayState S) : PlayState S → Attention → Type 0 where
   begins : Attends sectors faults start start unlooked
-  a_look : (bytes : List ℕ) (ended : Bool) (s : PlayState S) (a : Attention) → Attends sectors faults start s a
-      → MayLook (patience_of s.run.machine.cpu) s.run s.turns a
+  a_look : (patience : Patience) (answer : Result Came StationFault) (bytes : List ℕ) (s : PlayState S) (a : Attention) → Attends sectors faults start s a
+      → MayLook patience s.run s.turns a → CameWith answer bytes
       → Attends sectors faults start (record s { run = on_console (typed_in bytes s.run.system.terminal.console) s.run; arrivals = s.arrivals ++ arrived s.turns bytes })
-      (after_look (patience_of s.run.machine.cpu) s.turns ended a)
+      (after_look s.turns patience answer a)
   a_step : (run : RunState S Dialog) (s : PlayState S) (a : Attention) → Attends sectors faults start s a
       → is_finished s.run.machine.cpu.pc ≡ false → MayStep s.run s.turns a → IsTurn sectors faults (λ d. d) s.run None run
-      → Attends sectors faults start (record s { run = run; turns = s.turns + 1 }) (after_step (patience_of s.run.machine.cpu) s.turns a)
-  a_show : (bytes : List ℕ) (s : PlayState S) (a : Attention) → Attends sectors faults start s a → s.run.system.terminal.console.output ≡ Some bytes
-      → Attends sectors faults start (record s { run = on_console (output_cleared s.run.system.terminal.console) s.run; shown = s.shown ++ bytes }) a
+      → Attends sectors faults start (record s { run = run; turns = s.turns + 1 }) (after_step a)
+  a_show : (rest : List ℕ) (s : PlayState S) (a : Attention) → Attends sectors faults start s a → s.run.system.terminal.console.output ≡ Some (a.ahead ++ rest)
+      → Attends sectors faults start (record s { run = on_console (output_cleared s.run.system.terminal.console) s.run; shown = s.shown ++ (a.ahead ++ rest) }) (after_show rest [] a)
+  an_echo : (more : List ℕ) (s : PlayState S) (a : Attention) → Attends sectors faults start s a → s.run.system.terminal.console.output ≡ Some [] → next_echo s.run ≡ a.ahead ++ more
+      → Attends sectors faults start s (after_show more (a.ahead ++ more) a)
 
--- the looks of a session so far, and perhaps one more, as the next step asks for it
-abbrev pub AreLooks : {S : Type 0} → PlayState S → Attention → List Look → Type 0
-AreLooks s a looks =
-    (looks ≡ a.looks) ⊎ (MayLook (patience_of s.run.machine.cpu) s.run s.turns a × (looks ≡ a.looks ++ record { turns = s.turns; patience = patience_of s.run.machine.cpu } ∷ []))
+-- The session has come to this state of the run, with these arrivals, by steps that do not end the run.
+abbrev pub ComesTo : {S : Type 0} → (S → Image) → (S → ℕ) → PlayState S → PlayState S → Attention → Type 0
+ComesTo sectors faults start new a = (shown : List ℕ) × Attends sectors faults start (record new { shown = shown }) a
 
--- All looks of a session that has ended. The last one may have ended it: then no byte came. If a last step ended the run, it had been attended to.
-abbrev pub HasLooked : {S : Type 0} → (S → Image) → (S → ℕ) → PlayState S → PlayState S → List Look → Type 0
-HasLooked {S} sectors faults start new looks =
-    (s : PlayState S) × (a : Attention) × Attends sectors faults start s a × (new.arrivals ≡ s.arrivals)
-    × (((new.turns ≡ s.turns) × AreLooks s a looks)
-    ⊎ ((new.turns ≡ s.turns + 1) × MayStep s.run s.turns a × ((end : Why) × IsTurn sectors faults (λ d. d) s.run (Some end) new.run) × (looks ≡ a.looks)))
+-- a last step, which was attended to as each before it, ends the run
+abbrev pub EndsAttended : {S : Type 0} → (S → Image) → (S → ℕ) → PlayState S → Why → PlayState S → Attention → Type 0
+EndsAttended {S} sectors faults start end new a =
+    (s : PlayState S) × Attends sectors faults start s a × (is_finished s.run.machine.cpu.pc ≡ false) × MayStep s.run s.turns a × IsTurn sectors faults (λ d. d) s.run (Some end) new.run
+    × (new.turns ≡ s.turns + 1) × (new.arrivals ≡ s.arrivals)
+
+-- These ends need no last step: the program has finished, or the limit is reached.
+abbrev pub NeedsNoStep : Why → Type 0
+NeedsNoStep end = (end ≡ why.Finished) ⊎ (end ≡ why.TurnLimit)
+
+-- the session up to the end of the run
+abbrev pub RunsTo : {S : Type 0} → (S → Image) → (S → ℕ) → PlayState S → Why → PlayState S → Attention → Type 0
+RunsTo sectors faults start end new a = (NeedsNoStep end × ComesTo sectors faults start new a) ⊎ EndsAttended sectors faults start end new a
+
+-- the session so far, or up to the end of the run
+abbrev pub HasRun : {S : Type 0} → (S → Image) → (S → ℕ) → PlayState S → PlayState S → Attention → Type 0
+HasRun sectors faults start new a = ComesTo sectors faults start new a ⊎ ((end : Why) × EndsAttended sectors faults start end new a)
+
+-- The keyboard is asked once more, and answers this, and that ends the session.
+abbrev pub EndsByLook : {S : Type 0} → (S → Image) → (S → ℕ) → PlayState S → PlayState S → Result Came StationFault → List SeatEvent → Type 0
+EndsByLook sectors faults start new answer events =
+    (a : Attention) × ComesTo sectors faults start new a × ((patience : Patience) × MayLook patience new.run new.turns a × (events ≡ a.events ++ SeatEvent.asked new.turns patience answer ∷ []))
+
+-- The screen did not take all bytes of the rest of what was put, or of the echo, and that ends the session.
+abbrev pub EndsByScreen : {S : Type 0} → (S → Image) → (S → ℕ) → PlayState S → PlayState S → List SeatEvent → Type 0
+EndsByScreen sectors faults start new events =
+    (a : Attention) × HasRun sectors faults start new a
+    × ((bytes : List ℕ) × ((new.run.system.terminal.console.output ≡ Some (a.ahead ++ bytes)) ⊎ (next_echo new.run ≡ a.ahead ++ bytes)) × (events ≡ a.events ++ SeatEvent.not_showed bytes ∷ []))
+
+-- The session gives up, though neither the keyboard nor the screen failed: it has waited 4,294,967,295 times or more for the input of one step; or
+-- memory ran out for what function 10 puts, so that this does not begin with the echo that is shown.
+abbrev pub GivesUpSession : {S : Type 0} → (S → Image) → (S → ℕ) → PlayState S → PlayState S → List SeatEvent → Type 0
+GivesUpSession sectors faults start new events =
+    (a : Attention) × ((ComesTo sectors faults start new a × (4294967295 ≤ waits_after new.turns a.events) × (events ≡ a.events))
+    ⊎ (EndsAttended sectors faults start (why.Stopped stop.ConsoleFault) new a × ((rest : List ℕ) → new.run.system.terminal.console.output ≢ Some (a.ahead ++ rest)) × (events ≡ a.events)))
+
+-- What happened at the keyboard and the screen in a session that ended so. If the run ended, the rest of what the program put was shown last. If the
+-- person left, that was the answer to the last look. If memory ran out, it did so for what that brought, or for the echo before a call that takes a
+-- line. If the session failed, the last look failed, or the screen did; or the session gave up.
+abbrev pub HasHappened : {S : Type 0} → (S → Image) → (S → ℕ) → PlayEnd → PlayState S → PlayState S → List SeatEvent → Type 0
+HasHappened sectors faults (play.Run end) start new events =
+    (a : Attention) × RunsTo sectors faults start end new a × ((rest : List ℕ) × (new.run.system.terminal.console.output ≡ Some (a.ahead ++ rest)) × (events ≡ a.events ++ SeatEvent.showed rest ∷ []))
+HasHappened sectors faults play.Left start new events = EndsByLook sectors faults start new (Ok said.Leave) events
+HasHappened sectors faults play.NoMemory start new events =
+    ((a : Attention) × ComesTo sectors faults start new a × TakesLine new.run.machine.cpu × (events ≡ a.events)) ⊎ ((count : ℕ) × EndsByLook sectors faults start new (Ok (said.Bytes count)) events)
+HasHappened sectors faults play.Failed start new events =
+    ((fault : StationFault) × EndsByLook sectors faults start new (Err fault) events) ⊎ (EndsByScreen sectors faults start new events ⊎ GivesUpSession sectors faults start new events)
 
 -- the bytes of those that arrived
 abbrev pub arrival_bytes : List Arrival → List ℕ
@@ -113,12 +163,11 @@ pub record Arrives (before : Seat) (arrivals : List Arrival) : Type 0 where
 abbrev pub ShowsAll : {S : Type 0} → Seat → Seat → PlayState S → List ℕ → Type 0
 ShowsAll before after new bytes = (more : List ℕ) → Keeps (before.screen (new.shown ++ bytes ++ more)) (after.screen more)
 
--- The echo of a line that is being typed, which is shown before function 10 puts it: what the function would put for the bytes that are
--- there. It is empty unless the next step is a call of function 10.
+-- What is shown before a look besides what the program has put: nothing, or the echo of the line for which it waits.
 abbrev pub IsEcho : {S : Type 0} → RunState S Dialog → List ℕ → Type 0
-IsEcho r echo = (echo ≡ []) ⊎ (TakesLine r.machine.cpu × (echo ≡ put_by (typed_line (line_room r) (screen (λ d. d) r.system.terminal)).events))
+IsEcho r echo = (echo ≡ []) ⊎ (echo ≡ next_echo r)
 
--- What the keyboard and the screen tell of a session besides the bytes that arrived.
+-- What the keyboard and the screen tell of a session besides the bytes that arrived and what happened.
 -- With the run: all that came has arrived, and all that the program put is shown. A program was told that no key will ever come only if
 -- none was left.
 -- If the person left: it was by the keys that came, and the last of these did not arrive. All is shown that the program put, and then such an
@@ -142,13 +191,13 @@ abbrev pub first_state : {S : Type 0} → Cpu → List ℕ → Mounted S → Pla
 first_state cpu memory disk = record { run = record { machine = machine cpu memory; system = new_system disk (dialog_of [] (Some []) 0) }; turns = 0; arrivals = []; shown = [] }
 
 -- A session with a program and its words, on a disk, of at most `limit` steps: how it ended, after how many steps and with which PC, the disk
--- then, and the bytes that came. None comes after the run has ended. These are all looks at the keyboard. If the program cannot be started, there is
--- no step and no look.
+-- then, and the bytes that came. None comes after the run has ended. If the seat tells what happens, this is what happened. If the program
+-- cannot be started, there is no step, and nothing happens there.
 abbrev pub IsPlayed : {S : Type 0} → (S → Image) → (S → ℕ) → List ℕ → List (List ℕ) → Mounted S → ℕ → Seat → PlayEnd → ℕ → ℕ → Mounted S → List Arrival → Seat → Type 0
 IsPlayed {S} sectors faults file words disk limit before end turns pc left arrivals after =
     ((cpu : Cpu) × (memory : List ℕ) × (new : PlayState S) × IsStart file words (Ok (cpu, memory)) × PlayEnds sectors faults limit (first_state cpu memory disk) end new
     × (turns ≡ new.turns) × (turns ≤ limit) × (pc ≡ new.run.machine.cpu.pc) × (left ≡ new.run.system.disk) × (arrivals ≡ new.arrivals) × Arrives before arrivals × Sees end before after new × ((reason : Why) → end ≡ play.Run reason → CameBefore turns arrivals)
-    × ((looks : List Look) × (after.looks ≡ with_looks looks before.looks) × HasLooked sectors faults (first_state cpu memory disk) new looks))
+    × ((events : List SeatEvent) × (after.events ≡ with_events events before.events) × HasHappened sectors faults end (first_state cpu memory disk) new events))
     ⊎ ((no : StartFault) × IsStart file words (Err no) × (end ≡ play.Run (unstarted no)) × (turns ≡ 0) × (pc ≡ 0x0100) × (left ≡ disk) × (arrivals ≡ []) × (after ≡ before))
 
 -- ---- the same session again
@@ -173,18 +222,20 @@ ReplayEnds sectors faults limit last start play.Left new = EndsBetween sectors f
 ReplayEnds sectors faults limit last start play.Failed new = PlaysOn sectors faults start new ⊎ ((end : Why) × PlayedRunEnds sectors faults limit start end new)
 ReplayEnds sectors faults limit last start play.NoMemory new = PlaysOn sectors faults start new
 
--- The keyboard is not asked. All is shown that the program put, unless the screen failed.
+-- The keyboard is not asked. All is shown that the program put, unless the screen failed: then it did not take all bytes, and that is the last that
+-- happened.
 pub record IsShownAgain {S : Type 0} (end : PlayEnd) (before after : Seat) (new : PlayState S) : Type 0 where
   pub coming : after.coming ≡ before.coming
   pub leaves : after.leaves ≡ before.leaves
-  pub looks : after.looks ≡ before.looks
+  pub looks : option_map looks_in after.events ≡ option_map looks_in before.events
   pub all : end ≢ play.Failed → (bytes : List ℕ) × (new.run.system.terminal.console.output ≡ Some bytes) × ShowsAll before after new bytes
+  pub failed : end ≡ play.Failed → (events : List SeatEvent) × (bytes : List ℕ) × (after.events ≡ with_events (events ++ SeatEvent.not_showed bytes ∷ []) before.events)
 
--- A program is played again from a record. If the record is in order, the bytes came as it says; and all of them, if the session ended as if the
--- person left.
+-- A program is played again from a record. Memory runs out only for a byte of the record that is still to come. If the record is in order, the bytes
+-- came as it says; and all of them, if the session ended as if the person left.
 abbrev pub IsReplayed : {S : Type 0} → (S → Image) → (S → ℕ) → List ℕ → List (List ℕ) → Mounted S → ℕ → List Arrival → ℕ → Seat → PlayEnd → ℕ → ℕ → Mounted S → List Arrival → Seat → Type 0
 IsReplayed {S} sectors faults file words disk limit recorded last before end turns pc left arrivals after =
     ((cpu : Cpu) × (memory : List ℕ) × (new : PlayState S) × IsStart file words (Ok (cpu, memory)) × ReplayEnds sectors faults limit last (first_state cpu memory disk) end new
-    × (turns ≡ new.turns) × (turns ≤ limit) × (pc ≡ new.run.machine.cpu.pc) × (left ≡ new.run.system.disk) × (arrivals ≡ new.arrivals) × IsShownAgain end before after new
+    × (turns ≡ new.turns) × (turns ≤ limit) × (pc ≡ new.run.machine.cpu.pc) × (left ≡ new.run.system.disk) × (arrivals ≡ new.arrivals) × IsShownAgain end before after new × (end ≡ play.NoMemory → length arrivals < length recorded)
     × (IsInOrder recorded last → FollowsRecord recorded last turns arrivals × (end ≡ play.Left → arrivals ≡ recorded)))
     ⊎ ((no : StartFault) × IsStart file words (Err no) × (end ≡ play.Run (unstarted no)) × (turns ≡ 0) × (pc ≡ 0x0100) × (left ≡ disk) × (arrivals ≡ []) × (after ≡ before))

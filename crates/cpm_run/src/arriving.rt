@@ -18,9 +18,9 @@ pub enum PlayEnd {
     Run(Why),
     /// The person left.
     Left,
-    /// The keyboard or the screen failed.
+    /// The keyboard or the screen failed, or the session gave up.
     Failed,
-    /// Memory ran out for what came.
+    /// Memory ran out for what came, or for the echo of a line.
     NoMemory,
 }
 

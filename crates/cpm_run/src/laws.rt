@@ -80,8 +80,9 @@ pub fn replayed_alike<S: Sectors>()
     z80_machine::laws::one_turn();
 }
 
-/// A step that lacks its input stops the run for want of it, unless the console fails.
+/// A step that lacks its input stops the run for want of it, unless the console fails. No other step stops a run for want of input.
 pub fn step_lacking_input<S: Sectors>()
-    ensures { (old new : RunState S Dialog) (end : Option Why) → LacksInput old → IsTurn S.sectors S.faults (λ d. d) old end new →
+    ensures stops { (old new : RunState S Dialog) (end : Option Why) → LacksInput old → IsTurn S.sectors S.faults (λ d. d) old end new →
         (end ≡ Some (why.Stopped stop.EndOfInput)) ⊎ (end ≡ Some (why.Stopped stop.ConsoleFault)) }
+    ensures only { (old new : RunState S Dialog) → IsTurn S.sectors S.faults (λ d. d) old (Some (why.Stopped stop.EndOfInput)) new → LacksInput old }
 {}

@@ -1,14 +1,12 @@
 //! Runs a program for somebody at a keyboard.
 
-ghost use Rattle.std.specs.Prelude.{◌≡◌, ◌≤◌, ◌<◌, [], List, OnOk, ℕ, map, true};
-ghost use Rattle.cpm_fcb.specs.declared.stop.Stop.TheVariants as stop;
+ghost use Rattle.std.specs.Prelude.{◌≡◌, ◌≤◌, ◌<◌, [], List, OnOk, ℕ, map};
 ghost use Rattle.cpm_run.specs.declared.arriving.PlayEnd.TheVariants as play;
 ghost use Rattle.cpm_run.specs.declared.ending.Why.{Why};
-ghost use Rattle.cpm_run.specs.declared.ending.Why.TheVariants as why;
 ghost use Rattle.cpm_run.specs.Run.{unstarted};
 ghost use Rattle.cpm_run.specs.Play.{Arrives, CameBefore, IsPlayed, PlayState, PlayEnds, Sees};
 ghost use Rattle.cpm_run.specs.Seat.{Seat};
-ghost use Rattle.cpm_run.specs.Private.Playing.{Begins, Ends, GoesRound, HasEnded, OnlyShows, Rests, RestsOn, state_of};
+ghost use Rattle.cpm_run.specs.Private.Playing.{Begins, Ends, GoesRound, HasEnded, HasStopped, OnlyShows, Rests, RestsOn, state_of};
 
 pub(crate) mod state;
 mod waiting;
@@ -19,7 +17,6 @@ use crate::fault::StartFault;
 use crate::places::is_finished;
 use crate::starting::start;
 use crate::station::Station;
-use cpm_bdos::Stop;
 use cpm_disk::Disk;
 use cpm_image::Sectors;
 use state::Playing;
@@ -42,13 +39,6 @@ pub struct Played<S: Sectors> {
     pub arrivals: Vec<Arrival>,
 }
 
-/// Whether a run ended because no input was left.
-fn lacks_input(end: Why) -> bool
-    ensures { end ≡ why.Stopped stop.EndOfInput → result ≡ true }
-{
-    matches!(end, Why::Stopped(Stop::EndOfInput))
-}
-
 impl<S: Sectors> Playing<S> {
     /// Makes steps up to an address of the system, sees that the next step has the input that it needs, and makes it.
     fn go_round<K: Station>(
@@ -58,9 +48,7 @@ impl<S: Sectors> Playing<S> {
         limit: u64,
     ) -> Result<(), PlayEnd>
         requires bound { self.old.turns ≤ limit }
-        requires looked { self.old.looked ≤ self.old.turns }
         ensures bound { self.new.turns ≤ limit }
-        ensures looked { self.new.looked ≤ self.new.turns }
         ensures further { OnOk result (self.old.turns < self.new.turns) }
         ensures looks { (start : PlayState S) (before : Seat) → Rests S.sectors S.faults start before self.old (K.seat station.old) → RestsOn S.sectors S.faults result start before self.new (K.seat station.new) }
         ensures so_far { (start : PlayState S) (before : Seat) → Begins S.sectors S.faults start before self.old (K.seat station.old) → GoesRound S.sectors S.faults limit result start before self.new (K.seat station.new) }
@@ -89,9 +77,8 @@ impl<S: Sectors> Playing<S> {
     /// Makes steps until the session ends.
     fn play<K: Station>(&mut self, alloc: Global, station: &mut K, limit: u64) -> PlayEnd
         requires bound { self.old.turns ≤ limit }
-        requires looked { self.old.looked ≤ self.old.turns }
         ensures bound { self.new.turns ≤ limit }
-        ensures looks { (start : PlayState S) (before : Seat) → Rests S.sectors S.faults start before self.old (K.seat station.old) → HasEnded S.sectors S.faults start before self.new (K.seat station.new) }
+        ensures looks { (start : PlayState S) (before : Seat) → Rests S.sectors S.faults start before self.old (K.seat station.old) → HasStopped S.sectors S.faults result start before self.new (K.seat station.new) }
         ensures so_far { (start : PlayState S) (before : Seat) → Begins S.sectors S.faults start before self.old (K.seat station.old) → Ends S.sectors S.faults limit result start before self.new (K.seat station.new) }
     {
         loop {
@@ -122,16 +109,13 @@ impl<S: Sectors> Playing<S> {
     /// Shows what was put last, if the run has ended. Answers how the session ended.
     fn close<K: Station>(&mut self, station: &mut K, end: PlayEnd) -> PlayEnd
         ensures others { OnlyShows self.old self.new }
-        ensures looks { (K.seat station.new).looks ≡ (K.seat station.old).looks }
-        ensures ended { (limit : ℕ) (start : PlayState S) (before : Seat) → Ends S.sectors S.faults limit end start before self.old (K.seat station.old)
+        ensures looks { (start : PlayState S) (before : Seat) → HasStopped S.sectors S.faults end start before self.old (K.seat station.old) → HasEnded S.sectors S.faults result start before self.old (K.seat station.new) }
+        ensures ended { (limit : ℕ) (start : PlayState S) (before : Seat) → Ends S.sectors S.faults limit end start before self.old (K.seat station.old) → HasStopped S.sectors S.faults end start before self.old (K.seat station.old)
             → (shown : List ℕ) × PlayEnds S.sectors S.faults limit start result (state_of self.old shown) × Arrives before self.old.arrivals.items × Sees result before (K.seat station.new) (state_of self.old shown)
             × ((reason : Why) → result ≡ play.Run reason → CameBefore self.old.turns self.old.arrivals.items) }
     {
         match end {
             PlayEnd::Run(why) => match self.show(station) {
-                // A step is made only when it has the input that it takes, or when the keyboard has said that no key will come (`attend`).
-                // No clause shows that such a step never ends a run for want of input. So this case is a failure.
-                Ok(()) if lacks_input(why) && !self.ended => PlayEnd::Failed,
                 Ok(()) => PlayEnd::Run(why),
                 Err(_) => PlayEnd::Failed,
             },

@@ -1,10 +1,10 @@
 //! Runs a program again as in an earlier session, with the bytes of its record.
 
-ghost use Rattle.std.specs.Prelude.{◌≡◌, ◌≢◌, ◌≤◌, ◌<◌, [], ℕ, Err, IfOk, List, OnOk, map, true};
+ghost use Rattle.std.specs.Prelude.{◌≡◌, ◌≢◌, ◌≤◌, ◌<◌, [], ℕ, Err, IfOk, List, OnOk, length, map, true};
 ghost use Rattle.cpm_run.specs.declared.arriving.PlayEnd.TheVariants as play;
 ghost use Rattle.cpm_run.specs.Play.{FollowsRecord, IsInOrder, IsReplayed, IsShownAgain, PlayState, ReplayEnds};
 ghost use Rattle.cpm_run.specs.Seat.{Seat};
-ghost use Rattle.cpm_run.specs.Private.Playing.{HasReached, IsUnasked, OnlyShows, Repeats, RepeatsTo, Stands, state_of};
+ghost use Rattle.cpm_run.specs.Private.Playing.{EndsTold, HasReached, IsQuiet, IsUnasked, OnlyShows, Repeats, RepeatsTo, Stands, ToldOn, state_of};
 
 use crate::arriving::{Arrival, PlayEnd};
 use crate::ending::Why;
@@ -32,6 +32,8 @@ impl<S: Sectors> Playing<S> {
         ensures arrivals { self.new.arrivals.items ≡ self.old.arrivals.items }
         ensures reached { IfOk result (λ done. HasReached target limit done self.old self.new) }
         ensures ending { result ≢ Err play.Left }
+        ensures memory { result ≢ Err play.NoMemory }
+        ensures told { (before : Seat) → IsQuiet before self.old (K.seat station.old) → ToldOn result before self.new (K.seat station.new) }
         ensures keys { IsUnasked (K.seat station.old) (K.seat station.new) }
         ensures stands { (start : PlayState S) (before : Seat) → Stands S.sectors S.faults start before self.old (K.seat station.old) → Repeats S.sectors S.faults limit result start before self.new (K.seat station.new) }
     {
@@ -65,6 +67,8 @@ impl<S: Sectors> Playing<S> {
         ensures arrivals { self.new.arrivals.items ≡ self.old.arrivals.items }
         ensures reached { OnOk result (HasReached target limit true self.old self.new) }
         ensures ending { result ≢ Err play.Left }
+        ensures memory { result ≢ Err play.NoMemory }
+        ensures told { (before : Seat) → IsQuiet before self.old (K.seat station.old) → ToldOn result before self.new (K.seat station.new) }
         ensures keys { IsUnasked (K.seat station.old) (K.seat station.new) }
         ensures stands { (start : PlayState S) (before : Seat) → Stands S.sectors S.faults start before self.old (K.seat station.old) → Repeats S.sectors S.faults limit result start before self.new (K.seat station.new) }
     {
@@ -89,6 +93,8 @@ impl<S: Sectors> Playing<S> {
         requires bound { self.old.turns ≤ limit }
         ensures bound { self.new.turns ≤ limit }
         ensures follows { self.old.arrivals.items ≡ [] → self.old.turns ≡ 0 → IsInOrder recorded.now last → FollowsRecord recorded.now last self.new.turns self.new.arrivals.items × (result ≡ play.Left → self.new.arrivals.items ≡ recorded.now) }
+        ensures short { self.old.arrivals.items ≡ [] → result ≡ play.NoMemory → length self.new.arrivals.items < length recorded.now }
+        ensures told { (before : Seat) → IsQuiet before self.old (K.seat station.old) → EndsTold result before self.new (K.seat station.new) }
         ensures keys { IsUnasked (K.seat station.old) (K.seat station.new) }
         ensures stands { (start : PlayState S) (before : Seat) → Stands S.sectors S.faults start before self.old (K.seat station.old) → RepeatsTo S.sectors S.faults limit last result start before self.new (K.seat station.new) }
     {
@@ -110,7 +116,8 @@ impl<S: Sectors> Playing<S> {
     fn finish<K: Station>(&mut self, station: &mut K, end: PlayEnd) -> PlayEnd
         ensures others { OnlyShows self.old self.new }
         ensures left { result ≡ play.Left → end ≡ play.Left }
-        ensures ended { (limit last : ℕ) (start : PlayState S) (before : Seat) → RepeatsTo S.sectors S.faults limit last end start before self.old (K.seat station.old) → IsUnasked before (K.seat station.old)
+        ensures short { result ≡ play.NoMemory → end ≡ play.NoMemory }
+        ensures ended { (limit last : ℕ) (start : PlayState S) (before : Seat) → RepeatsTo S.sectors S.faults limit last end start before self.old (K.seat station.old) → IsUnasked before (K.seat station.old) → EndsTold end before self.old (K.seat station.old)
             → (shown : List ℕ) × ReplayEnds S.sectors S.faults limit last start result (state_of self.old shown) × IsShownAgain result before (K.seat station.new) (state_of self.old shown) }
     {
         match end {

@@ -18,7 +18,7 @@ pub enum Patience {
 pub enum Came {
     /// This number of bytes, at the front of the buffer.
     Bytes(usize),
-    /// No byte will ever come.
+    /// No byte is left, and the keyboard expects none.
     End,
     /// The person wants to leave.
     Leave,
@@ -30,7 +30,7 @@ pub struct StationFault;
 
 /// A keyboard and a screen.
 pub trait Station {
-    /// What the screen has got, which keys will come, and which looks there were, where that is known; and by which keys the person leaves.
+    /// What the screen has got, which keys will come, and what has happened, where that is known; and by which keys the person leaves.
     ghost seat: { Self → Seat };
 
     /// Reads what comes into a buffer. The program has made `turns` steps.

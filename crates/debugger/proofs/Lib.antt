@@ -1,3 +1,3 @@
 mod OneMove
 pub mod Talking
-mod Coding
+mod Listed

@@ -1,3 +1,4 @@
+pub mod Addresses
 pub mod Instructions
 pub mod Text
 pub mod Session

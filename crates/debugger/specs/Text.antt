@@ -1,6 +1,6 @@
 -- What is printed for the commands that show something.
-use Rattle.std.specs.Prelude.{◌≡◌, ◌==◌, ◌&&◌, ◌||◌, ℕ, Bool, List, [], ◌∷◌, ◌++◌, Option, Some, None, codes, decimal, drop, filter, find, if◌then◌else◌, length, map, nat_eq, nat_lt, not, take, true}
-use Rattle.std.specs.List.{flat_map, list_all, position_or_len, starts_with}
+use Rattle.std.specs.Prelude.{◌≡◌, ◌==◌, ◌&&◌, ◌||◌, ℕ, Bool, List, [], ◌∷◌, ◌++◌, ◌*◌, Option, Some, None, codes, decimal, drop, filter, if◌then◌else◌, length, map, nat_eq, nat_lt, not, slice_index, take, true}
+use Rattle.std.specs.List.{enumerate_from, flat_map, list_all, position_or_len, starts_with, take_while}
 use Rattle.bstr.specs.Text.{lines_of, without_terminator}
 use Rattle.cpm_run.specs.Run.{why_text}
 use Rattle.cpm_run.specs.Turns.{bdos}
@@ -23,8 +23,9 @@ use Rattle.machine_history.specs.declared.stops.Hit.TheVariants as hit
 use Rattle.machine_history.specs.declared.stops.Stops.{Stops}
 use Rattle.machine_history.specs.declared.stops.Watch.{Watch}
 use Rattle.debugger_commands.specs.declared.verb.Verb.{Verb}
-use Rattle.debugger.specs.Instructions.{WritesCode, WritesInstruction}
-use Rattle.state_text.specs.Labelled.{Known, labelled_address}
+use Rattle.debugger.specs.Instructions.{code_text, instruction_at}
+use Rattle.state_text.specs.Labelled.{Known}
+use Rattle.debugger.specs.Addresses.{address_with_label}
 use Rattle.machine_history.specs.Stops.{IsLast}
 use Rattle.state_text.specs.RegisterNames.{register_name}
 use Rattle.debugger_commands.specs.Typed.{argument_forms, verb_name}
@@ -37,7 +38,7 @@ condition_after None = []
 condition_after (Some condition) = codes " if " ++ register_name condition.register ++ codes "=" ++ word_text condition.value
 
 abbrev pub breakpoint_line : Known → Breakpoint → List ℕ
-breakpoint_line known breakpoint = codes "break " ++ labelled_address known breakpoint.address ++ condition_after breakpoint.condition ++ codes "\n"
+breakpoint_line known breakpoint = codes "break " ++ address_with_label known breakpoint.address ++ condition_after breakpoint.condition ++ codes "\n"
 
 -- how many bytes, unless it is one
 abbrev pub count_after : ℕ → List ℕ
@@ -45,7 +46,7 @@ count_after count = if count == 1 then [] else codes ", " ++ decimal count ++ co
 
 -- this many bytes from an address on are watched
 abbrev pub watch_line : Known → ℕ → ℕ → List ℕ
-watch_line known from count = codes "watch " ++ labelled_address known from ++ count_after count ++ codes "\n"
+watch_line known from count = codes "watch " ++ address_with_label known from ++ count_after count ++ codes "\n"
 
 abbrev pub watch_lines : List ℕ → Known → List Watch → List ℕ
 watch_lines before known watches = flat_map (λ watch. before ++ watch_line known watch.from watch.count) watches
@@ -104,13 +105,13 @@ call_text address function = if address == bdos then codes ": BDOS " ++ decimal 
 
 -- the instruction or the system call that changed a byte
 abbrev pub changer_text : Known → Change → List ℕ
-changer_text known change = labelled_address known change.by ++ call_text change.by change.function
+changer_text known change = address_with_label known change.by ++ call_text change.by change.function
 
 abbrev pub change_line : Known → Change → List ℕ
-change_line known change = labelled_address known change.address ++ values_text change ++ codes " by " ++ changer_text known change ++ codes "\n"
+change_line known change = address_with_label known change.address ++ values_text change ++ codes " by " ++ changer_text known change ++ codes "\n"
 
 abbrev pub unchanged_line : Known → ℕ → List ℕ
-unchanged_line known address = codes "no turn has changed " ++ labelled_address known address ++ codes "\n"
+unchanged_line known address = codes "no turn has changed " ++ address_with_label known address ++ codes "\n"
 
 -- the line of the last turn that changed the byte at an address, or that none has
 abbrev pub who_text : Known → ℕ → Option (ℕ × Hit) → List ℕ
@@ -128,40 +129,67 @@ SaysWho address shown known text =
 
 -- ---- `where`
 
--- the first line of a listing that begins with these digits
-abbrev pub line_with : List ℕ → List ℕ → Option (List ℕ)
-line_with listing digits = find (λ line. starts_with nat_eq line digits) (map without_terminator (lines_of listing))
+-- whether a row of a listing begins with an address; one without begins with a blank, or is empty if its blanks were cut off
+abbrev pub has_address : List ℕ → Bool
+has_address row = nat_lt 0 (length row) && not (slice_index row 0 == 0x20)
 
--- the columns of a listing's line that its bytes are in: eight, from the seventh on
+-- whether a row of a listing has further bytes of the line before it: it begins with an address, and no text of a source follows its bytes.
+-- The text of a source begins in the 17th column. Blanks at the end of a row may have been cut off.
+abbrev pub is_further_row : List ℕ → Bool
+is_further_row row = has_address row && list_all (λ byte. byte == 0x20) (drop 16 row)
+
+-- whether a row of a listing is the first of a line at the address with these digits
+abbrev pub begins_at : List ℕ → List ℕ → Bool
+begins_at digits row = starts_with nat_eq row digits && not (is_further_row row)
+
+-- the first of these rows that begins a line at the address with these digits, and the further rows of that line
+abbrev pub rows_from : List ℕ → List (List ℕ) → List (List ℕ)
+rows_from digits [] = []
+rows_from digits (row ∷ rows) = if begins_at digits row then row ∷ take_while is_further_row rows else rows_from digits rows
+
+-- the rows of a listing that are those of an address
+abbrev pub listed_rows : List ℕ → ℕ → List (List ℕ)
+listed_rows listing address = rows_from (word_text address) (map without_terminator (lines_of listing))
+
+-- the columns of a row that its bytes are in: eight, from the seventh on
 abbrev pub listed_columns : List ℕ → List ℕ
-listed_columns line = take 8 (drop 6 line)
+listed_columns row = take 8 (drop 6 row)
 
--- the digits of the bytes in a line of a listing
+-- the digits of the bytes in a row
 abbrev pub listed_digits : List ℕ → List ℕ
-listed_digits line = take (position_or_len (λ byte. byte == 0x20) (listed_columns line)) (listed_columns line)
+listed_digits row = take (position_or_len (λ byte. byte == 0x20) (listed_columns row)) (listed_columns row)
 
 -- the digits of the four bytes from an address on
 abbrev pub digits_at : List ℕ → ℕ → List ℕ
 digits_at memory address = encode_upper (byte_at address memory ∷ byte_at (up_by 1 address) memory ∷ byte_at (up_by 2 address) memory ∷ byte_at (up_by 3 address) memory ∷ [])
 
--- whether the bytes in memory are those in a line of the listing
+-- whether the bytes in memory are those in a row
 abbrev pub is_as_listed : List ℕ → ℕ → List ℕ → Bool
-is_as_listed memory address line = starts_with nat_eq (digits_at memory address) (listed_digits line)
+is_as_listed memory address row = starts_with nat_eq (digits_at memory address) (listed_digits row)
+
+-- whether they are those in all of these rows: each but the last has four bytes
+abbrev pub are_as_listed : List ℕ → ℕ → List (List ℕ) → Bool
+are_as_listed memory address rows = list_all (λ row. is_as_listed memory (up_by (4 * row.0) address) row.1) (enumerate_from 0 rows)
 
 -- what is said of a line of the listing if memory has other bytes
 abbrev pub changed_since : List ℕ
-changed_since = codes "the bytes here have changed since then: dis PC shows them\n"
+changed_since = codes "memory differs from this line: dis PC shows what is there now\n"
 
 abbrev pub listing_note : Bool → List ℕ
-listing_note is_as_listed = if is_as_listed then [] else changed_since
+listing_note are_as_listed = if are_as_listed then [] else changed_since
 
-abbrev pub listing_text : List ℕ → ℕ → Option (List ℕ) → List ℕ
-listing_text memory address None = []
-listing_text memory address (Some line) = line ++ codes "\n" ++ listing_note (is_as_listed memory address line)
+-- a byte of a listing: a tab stays as it is, and another byte that is no character is a full stop
+abbrev pub listed_character : ℕ → ℕ
+listed_character byte = if byte == 0x09 then byte else shown_character byte
+
+-- the first of the rows of an address, which has the text of the line, and whether memory has other bytes than all of them
+abbrev pub listing_text : List ℕ → ℕ → List (List ℕ) → List ℕ
+listing_text memory address [] = []
+listing_text memory address (row ∷ rows) = map listed_character row ++ codes "\n" ++ listing_note (are_as_listed memory address (row ∷ rows))
 
 -- an address with its label, and its line of a listing
 abbrev pub where_text : Known → List ℕ → List ℕ → ℕ → List ℕ
-where_text known listing memory address = labelled_address known address ++ codes "\n" ++ listing_text memory address (line_with listing (word_text address))
+where_text known listing memory address = address_with_label known address ++ codes "\n" ++ listing_text memory address (listed_rows listing address)
 
 -- ---- what the program has printed
 
@@ -192,32 +220,32 @@ nothing_held = codes "nothing held before: this is the start\n"
 
 -- Why such a command has stopped before the end of the run, unless it has reached what it was to reach. `none` is said if nothing stopped it.
 abbrev pub outcome_text : Known → List ℕ → Option Outcome → List ℕ
-outcome_text known none (Some (outcome.Held (hit.Breakpoint address))) = codes "breakpoint " ++ labelled_address known address ++ codes "\n"
+outcome_text known none (Some (outcome.Held (hit.Breakpoint address))) = codes "breakpoint " ++ address_with_label known address ++ codes "\n"
 outcome_text known none (Some (outcome.Held (hit.Changed change))) = codes "watch " ++ change_line known change
 outcome_text known none (Some outcome.Limit) = codes "limit of " ++ decimal most_turns ++ codes " turns\n"
 outcome_text known none None = none
 outcome_text known none told = []
 
--- What is there: why the run has ended; or the instruction.
-abbrev pub WritesPoint : Option Why → Known → Machine → List ℕ → Type 0
-WritesPoint (Some why) known machine what = what ≡ why_text why
-WritesPoint None known machine what = WritesInstruction known machine machine.cpu.pc what
+-- what is there: why the run has ended; or the instruction
+abbrev pub point_text : Option Why → Known → Machine → List ℕ
+point_text (Some why) known machine = why_text why
+point_text None known machine = instruction_at known machine machine.cpu.pc
 
 -- the line of a point: its number of turns, PC, and what is there
-abbrev pub point_line : Known → ℕ → ℕ → List ℕ → List ℕ
-point_line known turn pc what = codes "turn " ++ decimal turn ++ codes " at " ++ labelled_address known pc ++ codes ": " ++ what ++ codes "\n"
+abbrev pub point_line : Known → ℕ → Option Why → Machine → List ℕ
+point_line known turn end machine = codes "turn " ++ decimal turn ++ codes " at " ++ address_with_label known machine.cpu.pc ++ codes ": " ++ point_text end known machine ++ codes "\n"
 
 -- What the program has printed since, why the command has stopped, and what is shown now.
 abbrev pub SaysWhere : List ℕ → Option Outcome → Shown → Shown → Known → List ℕ → Type 0
 SaysWhere none told old new known text =
-    (before : List ℕ) × (now : List ℕ) × (what : List ℕ) × Printed old before × Printed new now × WritesPoint new.point.end known new.point.state.machine what
-    × (text ≡ output_text (since before now) ++ outcome_text known none told ++ point_line known new.turn new.point.state.machine.cpu.pc what)
+    (before : List ℕ) × (now : List ℕ) × Printed old before × Printed new now
+    × (text ≡ output_text (since before now) ++ outcome_text known none told ++ point_line known new.turn new.point.end new.point.state.machine)
 
 -- ---- the stack
 
 -- SP, or an address above it, and the word there as an address with its label
 abbrev pub stack_word_line : Known → List ℕ → ℕ → List ℕ
-stack_word_line known memory sp = word_text sp ++ codes ": " ++ labelled_address known (word_at sp memory) ++ codes "\n"
+stack_word_line known memory sp = word_text sp ++ codes ": " ++ address_with_label known (word_at sp memory) ++ codes "\n"
 
 -- how far the eight words on top of the stack are from SP
 abbrev pub stack_offsets : List ℕ
@@ -264,7 +292,7 @@ Says (command.Break breakpoint) stops told old shown known listing text = text �
 Says (command.Watch from count) stops told old shown known listing text = text ≡ watch_line known from count
 Says (command.Delete address) stops told old shown known listing text = text ≡ listed_stops known stops (command.Delete address)
 Says command.Info stops told old shown known listing text = text ≡ listed_stops known stops command.Info
-Says (command.Disassemble from count) stops told old shown known listing text = WritesCode known shown.point.state.machine from count text
+Says (command.Disassemble from count) stops told old shown known listing text = text ≡ code_text known shown.point.state.machine from count
 Says command.Stack stops told old shown known listing text = text ≡ stack_text known shown.point.state.machine.memory shown.point.state.machine.cpu.sp
 Says command.Help stops told old shown known listing text = text ≡ HELP.now
 Says command.Quit stops told old shown known listing text = text ≡ []

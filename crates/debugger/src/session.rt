@@ -25,16 +25,15 @@ const NOTHING_SET: &[u8] = b"no breakpoints, and no watched bytes\n";
 /// What is said if nothing is set at an address.
 const NOTHING_THERE: &[u8] = b"no breakpoint and no watched byte is there\n";
 
-const HELP: &[u8] =
-    b"step [N], next            make N turns, or one; one turn, but over a whole call
-finish                    to the first return after which SP is higher
-run [ADDR]                to ADDR, a breakpoint, a watched byte, or the end
-back [N], back-next       go back by N turns, or one; by one, but over a call
+const HELP: &[u8] = b"step [N], next            N turns (1); one turn, or all of a call
+finish                    run to the first return with SP higher after it
+run [ADDR]                run to ADDR, a breakpoint, a watched byte, or the end
+back [N], back-next       N turns back (1); one turn back, or all of a call
 back-run                  go back to the last breakpoint or watched change
 turn N                    go to the state after N turns from the start
 where, regs               PC with its line of the listing; registers, DMA, user
-mem ADDR [N]              N bytes of memory, or 16
-dis ADDR [N]              N instructions, or 8
+mem ADDR [N]              N bytes of memory (16)
+dis ADDR [N]              N instructions (8)
 stack, output             the top of the stack; what the program has printed
 who ADDR                  the last turn that changed this byte
 break ADDR [if REG=VALUE] stop when PC is ADDR, and REG has this value
@@ -43,12 +42,12 @@ info                      list the breakpoints and the watched bytes
 delete [ADDR]             forget those at ADDR, or all of them, and list them
 files                     the files of the disk: user, name and records
 help, quit                this list; end the session
-A word may be shortened: it stands for the first command above that begins so:
-s is step, b is back, and br is break. ADDR is a label, or PC, SP, AF, BC, DE,
-HL, IX or IY, each also with a number as in TEXT+1 or SP-2; or four hexadecimal
-digits as they are printed; or a number of the assembler, as 125H or 293. VALUE
-is the same, but no register, so write the byte BC as 0BCH. A turn that writes
-the same value does not change a byte.
+A word may be shortened. It stands for the first command above, line by line,
+left to right, that begins so: s is step, br is break. ADDR is a label, or PC,
+SP, AF, BC, DE, HL, IX or IY, each also with a number as in TEXT+1 or SP-2; or
+four hexadecimal digits as they are printed; or a number of the assembler, as
+125H or 293. VALUE is the same, but no register: write the byte BC as 0BCH. A
+turn that writes the same value does not change a byte.
 ";
 
 /// A session about one run.
@@ -86,7 +85,7 @@ impl<'a> Session<'a> {
     ghost use Rattle.std.specs.Prelude.{◌≡◌, ◌||◌, [], ℕ, IfOk, List, false, length};
     ghost use Rattle.machine_history.specs.Calls.{call_place};
     ghost use Rattle.machine_history.specs.Stops.{IsLast};
-    ghost use Rattle.debugger.specs.Instructions.{WritesCode};
+    ghost use Rattle.debugger.specs.Instructions.{code_text};
     ghost use Rattle.state_text.specs.Printing.Memory.{memory_text};
     ghost use Rattle.state_text.specs.Printing.Registers.{registers_text};
     ghost use Rattle.debugger.specs.Text.{Printed, Says, SaysWhere, SaysWho, Watches, breakpoint_line, listed_stops, output_text, stack_text, stops_text, watch_line, where_text};
@@ -387,7 +386,7 @@ impl<'a> Session<'a> {
 
     /// Instructions.
     fn code(&self, from: u16, count: u16) -> Result<Vec<u8>, AllocError>
-        ensures { IfOk result (λ text. WritesCode self.now.labels self.now.history.point.state.machine from «count» text.items) }
+        ensures { IfOk result (λ text. text.items ≡ code_text self.now.labels self.now.history.point.state.machine from «count») }
     {
         let snapshot = self.history.point().snapshot();
         let mut text = Vec::new(self.alloc);

@@ -1,12 +1,14 @@
 //! What a session prints.
 
-ghost use Rattle.std.specs.Prelude.{◌≡◌, ◌==◌, ◌≤◌, ◌++◌, ◌∷◌, [], ℕ, IfOk, List, OnOk, codes, filter, length, not, option_map};
-ghost use Rattle.hex.specs.Hex.{encode_upper};
-ghost use Rattle.std.specs.List.{flat_map, position_or_len};
+ghost use Rattle.std.specs.Prelude.{◌≡◌, ◌==◌, ◌≤◌, ◌++◌, IfOk, OnOk, codes, filter, length, map, not, option_map};
+ghost use Rattle.bstr.specs.Text.{lines_of, without_terminator};
+ghost use Rattle.std.specs.List.{flat_map, list_all, position_or_len};
 ghost use Rattle.z80_cpu.specs.State.{machine, up_by};
-ghost use Rattle.debugger.specs.Instructions.{WritesDecoded, WritesCode, WritesInstruction, byte_number, bios_entry_at, instruction_line, decoded_at, instruction_size, label_note, relative_note, target_note};
-ghost use Rattle.state_text.specs.Labelled.{label_after, labelled_address};
-ghost use Rattle.debugger.specs.Text.{WritesPoint, breakpoint_line, breakpoint_lines, call_text, change_line, changer_text, condition_after, listed_columns, count_after, is_as_listed, line_with, listed_digits, listing_note, listing_text, outcome_text, output_text, point_line, printed_line, stack_word_line, stack_text, stops_text, unchanged_line, values_text, watch_line, watch_lines, where_text, who_text};
+ghost use Rattle.debugger.specs.Instructions.{bios_entry_at, code_text, decoded_at, decoded_text, instruction_at, instruction_line, instruction_size, label_note, relative_note, target_note};
+ghost use Rattle.state_text.specs.Labelled.{label_after};
+ghost use Rattle.debugger.specs.Addresses.{address_with_label};
+ghost use Rattle.state_text.specs.Printing.Instructions.{byte_number};
+ghost use Rattle.debugger.specs.Text.{are_as_listed, begins_at, breakpoint_line, breakpoint_lines, call_text, change_line, changer_text, condition_after, count_after, has_address, is_as_listed, is_further_row, listed_character, listed_columns, listed_digits, listing_note, listing_text, outcome_text, output_text, point_line, point_text, printed_line, rows_from, stack_word_line, stack_text, stops_text, unchanged_line, values_text, watch_line, watch_lines, where_text, who_text};
 
 use crate::session::MOST_TURNS;
 use bstr::ByteSlice;
@@ -14,7 +16,10 @@ use cpm_disk::Disk;
 use cpm_image::MemoryImage;
 use cpm_run::{BDOS, BIOS, bios_entry, is_finished};
 use machine_history::{Change, Hit, Outcome, Point, Snapshot, Stops, Watch};
-use state_text::{Breakpoint, Condition, Labels, put_characters, put_label, put_word};
+use state_text::{
+    Breakpoint, Condition, Labels, put_byte, put_byte_number, put_characters, put_instr, put_label,
+    put_word, shown_character,
+};
 use std::alloc::{AllocError, Global};
 use z80_cpu::{Cpu, Memory, displaced};
 use z80_table::{DecodeFault, Instr, decode};
@@ -22,14 +27,17 @@ use z80_table::{DecodeFault, Instr, decode};
 /// The bytes of a name before its type.
 const NAME_BYTES: usize = 8;
 
-/// How many columns of a listing's line are before its bytes.
+/// How many columns a row of a listing has before the text of its line.
+const ROW_BYTES: usize = 16;
+
+/// How many columns of a listing's row are before its bytes.
 const DIGITS_FROM: usize = 6;
 
-/// The most digits of bytes in a listing's line.
+/// The most digits of bytes in a listing's row.
 const MOST_DIGITS: usize = 8;
 
 /// What is said of a line of the listing if memory has other bytes.
-const CHANGED_SINCE: &[u8] = b"the bytes here have changed since then: dis PC shows them\n";
+const CHANGED_SINCE: &[u8] = b"memory differs from this line: dis PC shows what is there now\n";
 
 /// The instruction at an address, with the number of its bytes. After FFFFH comes address 0.
 fn decoded_at(memory: &Memory, address: u16) -> Result<(Instr, u8), DecodeFault>
@@ -63,16 +71,12 @@ fn bios_entry_at(address: u16) -> Option<u8>
     bios_entry(address)
 }
 
-/// A byte that begins no documented instruction, as DB has it. A number begins with a digit.
+/// A byte that begins no documented instruction, as DB has it.
 fn put_undocumented(alloc: Global, byte: u8, text: &mut Vec<u8>) -> Result<(), AllocError>
     ensures { OnOk result (text.new.items ≡ text.old.items ++ codes "DB " ++ byte_number byte) }
 {
     text.extend_from_slice(b"DB ")?;
-    if byte >= 0xA0 {
-        text.push(b'0')?;
-    }
-    put_byte(alloc, byte, text)?;
-    text.extend_from_slice(b"H")
+    put_byte_number(alloc, text, byte)
 }
 
 /// Appends the target of a relative jump, whose text has only the distance.
@@ -103,7 +107,7 @@ fn put_label_note(
     put_label(alloc, text, name, offset)
 }
 
-/// Appends where a jump or a call goes, given the address of the next instruction.
+/// Appends where a jump, a call or RST goes, given the address of the next instruction.
 fn put_target(
     alloc: Global,
     labels: &Labels,
@@ -117,10 +121,13 @@ fn put_target(
         Instr::JumpRelative(e) => put_relative_note(alloc, labels, displaced(next, e), text),
         Instr::JumpRelativeIf(_, e) => put_relative_note(alloc, labels, displaced(next, e), text),
         Instr::Djnz(e) => put_relative_note(alloc, labels, displaced(next, e), text),
-        Instr::Jump(nn) => put_label_note(alloc, labels.find(nn), text),
-        Instr::JumpIf(_, nn) => put_label_note(alloc, labels.find(nn), text),
-        Instr::Call(nn) => put_label_note(alloc, labels.find(nn), text),
-        Instr::CallIf(_, nn) => put_label_note(alloc, labels.find(nn), text),
+        Instr::Jump(nn) => put_label_note(alloc, labels.target(nn), text),
+        Instr::JumpIf(_, nn) => put_label_note(alloc, labels.target(nn), text),
+        Instr::Call(nn) => put_label_note(alloc, labels.target(nn), text),
+        Instr::CallIf(_, nn) => put_label_note(alloc, labels.target(nn), text),
+        Instr::Restart(t) => {
+            put_label_note(alloc, labels.target(8 * u16::from(t.number())), text)
+        }
         _ => Ok(()),
     }
 }
@@ -134,11 +141,11 @@ fn put_decoded(
     found: Result<(Instr, u8), DecodeFault>,
     text: &mut Vec<u8>,
 ) -> Result<(), AllocError>
-    ensures { OnOk result ((what : List ℕ) × WritesDecoded labels.now address byte found what × (text.new.items ≡ text.old.items ++ what)) }
+    ensures { OnOk result (text.new.items ≡ text.old.items ++ decoded_text labels.now address byte found) }
 {
     match found {
         Ok((instr, size)) => {
-            put_characters(format!(in alloc; "{instr}")?.as_bytes(), text)?;
+            put_instr(alloc, text, instr)?;
             let next = address.wrapping_add(u16::from(size));
             put_target(alloc, labels, next, instr, text)
         }
@@ -155,7 +162,7 @@ fn put_instruction(
     address: u16,
     text: &mut Vec<u8>,
 ) -> Result<(), AllocError>
-    ensures { OnOk result ((what : List ℕ) × WritesInstruction labels.now (machine cpu.now memory.now) address what × (text.new.items ≡ text.old.items ++ what)) }
+    ensures { OnOk result (text.new.items ≡ text.old.items ++ instruction_at labels.now (machine cpu.now memory.now) address) }
 {
     if address == BDOS {
         let function = cpu.main.c;
@@ -196,10 +203,10 @@ pub(crate) fn put_address(
     address: u16,
     text: &mut Vec<u8>,
 ) -> Result<(), AllocError>
-    ensures { OnOk result (text.new.items ≡ text.old.items ++ labelled_address labels.now address) }
+    ensures { OnOk result (text.new.items ≡ text.old.items ++ address_with_label labels.now address) }
 {
     put_word(alloc, text, address)?;
-    put_label_after(alloc, labels.find(address), text)
+    put_label_after(alloc, labels.target(address), text)
 }
 
 /// Why the run has ended, or the instruction at PC.
@@ -209,7 +216,7 @@ fn put_what(
     point: &Point<'_>,
     text: &mut Vec<u8>,
 ) -> Result<(), AllocError>
-    ensures { OnOk result ((what : List ℕ) × WritesPoint point.now.end labels.now point.now.state.machine what × (text.new.items ≡ text.old.items ++ what)) }
+    ensures { OnOk result (text.new.items ≡ text.old.items ++ point_text point.now.end labels.now point.now.state.machine) }
 {
     let snapshot = point.snapshot();
     match point.end() {
@@ -229,8 +236,7 @@ pub(crate) fn put_point(
     point: &Point<'_>,
     text: &mut Vec<u8>,
 ) -> Result<(), AllocError>
-    ensures { OnOk result ((what : List ℕ) × WritesPoint point.now.end labels.now point.now.state.machine what
-        × (text.new.items ≡ text.old.items ++ point_line labels.now turn point.now.state.machine.cpu.pc what)) }
+    ensures { OnOk result (text.new.items ≡ text.old.items ++ point_line labels.now turn point.now.end point.now.state.machine) }
 {
     let pc = point.snapshot().cpu().pc;
     text.extend_from_slice(format!(in alloc; "turn {turn} at ")?.as_bytes())?;
@@ -240,22 +246,14 @@ pub(crate) fn put_point(
     text.extend_from_slice(b"\n")
 }
 
-/// Appends a byte as two hexadecimal digits.
-fn put_byte(alloc: Global, byte: u8, text: &mut Vec<u8>) -> Result<(), AllocError>
-    ensures { OnOk result (text.new.items ≡ text.old.items ++ encode_upper (byte ∷ [])) }
-{
-    let digits = hex::encode_upper(alloc, &[byte][..])?;
-    text.extend_from_slice(digits.as_bytes())
-}
-
 /// Appends the values of a changed byte before and after.
 fn put_values(alloc: Global, change: Change, text: &mut Vec<u8>) -> Result<(), AllocError>
     ensures { OnOk result (text.new.items ≡ text.old.items ++ values_text change) }
 {
     text.extend_from_slice(b": ")?;
-    put_byte(alloc, change.before, text)?;
+    put_byte(alloc, text, change.before)?;
     text.extend_from_slice(b" -> ")?;
-    put_byte(alloc, change.after, text)
+    put_byte(alloc, text, change.after)
 }
 
 /// Appends the function of a system call, if the address is the one that calls the system.
@@ -511,8 +509,7 @@ fn put_instruction_line(
     address: u16,
     text: &mut Vec<u8>,
 ) -> Result<(), AllocError>
-    ensures { OnOk result ((what : List ℕ) × WritesInstruction labels.now snapshot.now.machine address what
-        × (text.new.items ≡ text.old.items ++ instruction_line labels.now address what)) }
+    ensures { OnOk result (text.new.items ≡ text.old.items ++ instruction_line labels.now snapshot.now.machine address) }
 {
     put_address(alloc, labels, address, text)?;
     text.extend_from_slice(b": ")?;
@@ -530,7 +527,7 @@ pub(crate) fn put_instructions(
     count: u16,
     text: &mut Vec<u8>,
 ) -> Result<(), AllocError>
-    ensures { OnOk result ((lines : List ℕ) × WritesCode labels.now snapshot.now.machine from count lines × (text.new.items ≡ text.old.items ++ lines)) }
+    ensures { OnOk result (text.new.items ≡ text.old.items ++ code_text labels.now snapshot.now.machine from «count») }
 {
     let mut address = from;
     for _ in 0..count {
@@ -622,23 +619,62 @@ pub(crate) fn put_files(
     Ok(())
 }
 
-/// The first line of a listing that begins with these digits.
-fn line_with<'a>(listing: &'a [u8], digits: &[u8]) -> Option<&'a [u8]>
-    ensures { option_map (λ line. line.now) result ≡ line_with listing.now digits.now }
+/// Whether a row of a listing begins with an address.
+fn has_address(row: &[u8]) -> bool
+    ensures { result ≡ has_address row.now }
 {
-    for line in listing.lines() {
-        if line.starts_with(digits) {
-            return Some(line);
-        }
-    }
-    None
+    !row.is_empty() && row[0] != b' '
 }
 
-/// The columns of a listing's line that its bytes are in.
-fn listed_columns(line: &[u8]) -> &[u8]
-    ensures { result.now ≡ listed_columns line.now }
+/// Whether these bytes are blanks.
+fn are_blanks(bytes: &[u8]) -> bool
+    ensures { result ≡ list_all (λ byte. byte == 0x20) bytes.now }
 {
-    let after = line.get(DIGITS_FROM..).unwrap_or(&[]);
+    bytes.iter().all(|byte| *byte == b' ')
+}
+
+/// Whether a row of a listing has further bytes of the line before it. Many editors cut off the blanks at its end.
+fn is_further_row(row: &[u8]) -> bool
+    ensures { result ≡ is_further_row row.now }
+{
+    has_address(row) && are_blanks(row.get(ROW_BYTES..).unwrap_or(&[]))
+}
+
+/// Whether a row of a listing is the first of a line at the address with these digits.
+fn begins_at(digits: &[u8], row: &[u8]) -> bool
+    ensures { result ≡ begins_at digits.now row.now }
+{
+    row.starts_with(digits) && !is_further_row(row)
+}
+
+/// The first row of a listing that begins a line at the address with these digits, and the further rows of that line.
+fn rows_from<'a>(
+    alloc: Global,
+    listing: &'a [u8],
+    digits: &[u8],
+) -> Result<Vec<&'a [u8]>, AllocError>
+    ensures { IfOk result (λ rows. map (λ row. row.now) rows.items ≡ rows_from digits.now (map without_terminator (lines_of listing.now))) }
+{
+    let mut rows = Vec::new(alloc);
+    for line in listing.lines() {
+        if rows.is_empty() {
+            if begins_at(digits, line) {
+                rows.push(line)?;
+            }
+        } else if is_further_row(line) {
+            rows.push(line)?;
+        } else {
+            return Ok(rows);
+        }
+    }
+    Ok(rows)
+}
+
+/// The columns of a row that its bytes are in.
+fn listed_columns(row: &[u8]) -> &[u8]
+    ensures { result.now ≡ listed_columns row.now }
+{
+    let after = row.get(DIGITS_FROM..).unwrap_or(&[]);
     let (columns, _) = after.split_at(MOST_DIGITS.min(after.len()));
     columns
 }
@@ -651,23 +687,23 @@ fn unblank_len(columns: &[u8]) -> usize
     columns.iter().take_while(|byte| **byte != b' ').count()
 }
 
-/// The digits of the bytes in a line of a listing.
-fn listed_digits(line: &[u8]) -> &[u8]
-    ensures { result.now ≡ listed_digits line.now }
+/// The digits of the bytes in a row of a listing.
+fn listed_digits(row: &[u8]) -> &[u8]
+    ensures { result.now ≡ listed_digits row.now }
 {
-    let columns = listed_columns(line);
+    let columns = listed_columns(row);
     let (digits, _) = columns.split_at(unblank_len(columns));
     digits
 }
 
-/// Whether the bytes in memory are those in a line of the listing.
+/// Whether the bytes in memory are those in a row of a listing.
 fn is_as_listed(
     alloc: Global,
     memory: &Memory,
     address: u16,
-    line: &[u8],
+    row: &[u8],
 ) -> Result<bool, AllocError>
-    ensures { IfOk result (λ same. same ≡ is_as_listed memory.now address line.now) }
+    ensures { IfOk result (λ same. same ≡ is_as_listed memory.now address row.now) }
 {
     let bytes = [
         memory.get(address),
@@ -676,36 +712,75 @@ fn is_as_listed(
         memory.get(address.wrapping_add(3)),
     ];
     let digits = hex::encode_upper(alloc, &bytes[..])?;
-    Ok(digits.as_bytes().starts_with(listed_digits(line)))
+    Ok(digits.as_bytes().starts_with(listed_digits(row)))
+}
+
+/// Whether the bytes in memory are those in all rows of a line.
+fn are_as_listed(
+    alloc: Global,
+    memory: &Memory,
+    address: u16,
+    rows: &[&[u8]],
+) -> Result<bool, AllocError>
+    ensures { IfOk result (λ same. same ≡ are_as_listed memory.now address (map (λ row. row.now) rows.now)) }
+{
+    let mut from = address;
+    for row in rows {
+        if !is_as_listed(alloc, memory, from, row)? {
+            return Ok(false);
+        }
+        from = from.wrapping_add(4);
+    }
+    Ok(true)
 }
 
 /// Says so if memory has other bytes than a line of the listing.
-fn put_note(is_as_listed: bool, text: &mut Vec<u8>) -> Result<(), AllocError>
-    ensures { OnOk result (text.new.items ≡ text.old.items ++ listing_note is_as_listed) }
+fn put_note(are_as_listed: bool, text: &mut Vec<u8>) -> Result<(), AllocError>
+    ensures { OnOk result (text.new.items ≡ text.old.items ++ listing_note are_as_listed) }
 {
-    if is_as_listed {
+    if are_as_listed {
         return Ok(());
     }
     text.extend_from_slice(CHANGED_SINCE)
 }
 
-/// Appends a line of the listing, if there is one, and says so if memory has other bytes.
+/// A byte of a listing as it is printed: a tab stays as it is.
+fn listed_character(byte: u8) -> u8
+    ensures { result ≡ listed_character byte }
+{
+    if byte == b'\t' {
+        byte
+    } else {
+        shown_character(byte)
+    }
+}
+
+/// Appends a row of a listing.
+fn put_row(row: &[u8], text: &mut Vec<u8>) -> Result<(), AllocError>
+    ensures { OnOk result (text.new.items ≡ text.old.items ++ map listed_character row.now) }
+{
+    for byte in row {
+        text.push(listed_character(*byte))?;
+    }
+    Ok(())
+}
+
+/// Appends the first of the rows of a line of the listing, if there is one, and says so if memory has other bytes than all of them.
 fn put_listed(
     alloc: Global,
     memory: &Memory,
     address: u16,
-    line: Option<&[u8]>,
+    rows: &[&[u8]],
     text: &mut Vec<u8>,
 ) -> Result<(), AllocError>
-    ensures { OnOk result (text.new.items ≡ text.old.items ++ listing_text memory.now address (option_map (λ bytes. bytes.now) line.entry)) }
+    ensures { OnOk result (text.new.items ≡ text.old.items ++ listing_text memory.now address (map (λ row. row.now) rows.now)) }
 {
-    let Some(line) = line else {
+    let Some((first, _)) = rows.split_first() else {
         return Ok(());
     };
-    text.extend_from_slice(line)?;
+    put_row(first, text)?;
     text.extend_from_slice(b"\n")?;
-    let is_as_listed = is_as_listed(alloc, memory, address, line)?;
-    put_note(is_as_listed, text)
+    put_note(are_as_listed(alloc, memory, address, rows)?, text)
 }
 
 /// An address with its label, and its line of the listing.
@@ -723,5 +798,6 @@ pub(crate) fn put_where(
     text.extend_from_slice(b"\n")?;
     let mut digits = Vec::new(alloc);
     put_word(alloc, &mut digits, address)?;
-    put_listed(alloc, memory, address, line_with(listing, &digits), text)
+    let rows = rows_from(alloc, listing, &digits)?;
+    put_listed(alloc, memory, address, &rows, text)
 }

@@ -220,16 +220,21 @@ some_address known cpu it words = read_as Some (one_address known cpu it words)
 abbrev pub typed_number : List ℕ → Reading ℕ
 typed_number word = ok_or (number_typed word) (word, refusal.Number)
 
+-- N that may not be 0
+abbrev pub some_bytes : List ℕ → Reading ℕ → Reading ℕ
+some_bytes word (Ok count) = if count == 0 then Err (word, refusal.NoBytes) else Ok count
+some_bytes word (Err why) = Err why
+
+-- N after ADDR: a watch is of at least one byte
+abbrev pub typed_count : Verb → List ℕ → Reading ℕ
+typed_count verb.Watch word = some_bytes word (typed_number word)
+typed_count other word = typed_number word
+
 -- ADDR [N]
 abbrev pub address_and_number : Known → Cpu → Verb → ℕ → List (List ℕ) → Reading (ℕ × ℕ)
 address_and_number known cpu it default (word ∷ []) = both_read (address known cpu word) (Ok default)
-address_and_number known cpu it default (word ∷ count ∷ []) = both_read (address known cpu word) (typed_number count)
+address_and_number known cpu it default (word ∷ count ∷ []) = both_read (address known cpu word) (typed_count it count)
 address_and_number known cpu it default other = Err (usage it)
-
--- a watch, which is of at least one byte
-abbrev pub watch : Reading (ℕ × ℕ) → Reading Command
-watch (Ok (from, count)) = if count == 0 then Err (verb_name verb.Watch, refusal.NoBytes) else Ok (command.Watch from count)
-watch (Err why) = Err why
 
 -- a value that fits into its register
 abbrev pub fitting_value : List ℕ → Reading (RegisterName × ℕ) → Reading Condition
@@ -275,7 +280,7 @@ typed_as known cpu verb.Finish words = no_arguments verb.Finish command.Finish w
 typed_as known cpu verb.BackRun words = no_arguments verb.BackRun command.BackRun words
 typed_as known cpu verb.BackNext words = no_arguments verb.BackNext command.BackNext words
 typed_as known cpu verb.Break words = read_as command.Break (breakpoint known cpu words)
-typed_as known cpu verb.Watch words = watch (address_and_number known cpu verb.Watch 1 words)
+typed_as known cpu verb.Watch words = read_as (λ at. command.Watch at.0 at.1) (address_and_number known cpu verb.Watch 1 words)
 typed_as known cpu verb.Delete words = read_as command.Delete (some_address known cpu verb.Delete words)
 typed_as known cpu verb.Info words = info words
 typed_as known cpu verb.Registers words = no_arguments verb.Registers command.Registers words
@@ -318,7 +323,7 @@ refusal_line (word, refusal.Usage it) = usage_line it
 refusal_line (word, refusal.Address) = shown_word word ++ codes ": not a label or an address, such as START+5, HL, 0125 or 125H\n"
 refusal_line (word, refusal.Turns) = shown_word word ++ codes ": not a decimal number up to 18446744073709551615\n"
 refusal_line (word, refusal.Number) = shown_word word ++ codes ": not a number up to 65535\n"
-refusal_line (word, refusal.NoBytes) = shown_word word ++ codes ": at least one byte has to be watched\n"
+refusal_line (word, refusal.NoBytes) = shown_word word ++ codes ": watch needs at least one byte\n"
 refusal_line (word, refusal.Register) = shown_word word ++ codes ": no register before =\n"
-refusal_line (word, refusal.Value) = shown_word word ++ codes ": after = comes a number, as 188 or 0BCH, or a label, as START+5, but no register\n"
+refusal_line (word, refusal.Value) = shown_word word ++ codes ": after = a number up to 65535 or a label is needed, not a register\n"
 refusal_line (word, refusal.OneByte) = shown_word word ++ codes ": a register of one byte, so the value is at most 255\n"

@@ -1,7 +1,7 @@
 //! The commands of a session.
 
 ghost use Rattle.std.specs.Prelude.{◌≡◌, IfOk, Ok, map};
-ghost use Rattle.debugger_commands.specs.Typed.{address, address_and_number, no_arguments, breakpoint, typed_condition, conditional_breakpoint, fitting_value, info, is_listed, line_meaning, typed_number, one_address, read_as, shown_reading, some_address, typed_turns, typed_as, usage, watch};
+ghost use Rattle.debugger_commands.specs.Typed.{address, address_and_number, no_arguments, breakpoint, typed_condition, conditional_breakpoint, fitting_value, info, is_listed, line_meaning, typed_number, one_address, read_as, shown_reading, some_address, some_bytes, typed_count, typed_turns, typed_as, usage};
 ghost use Rattle.debugger_commands.specs.declared.command.Command.TheVariants as command;
 ghost use Rattle.debugger_commands.specs.declared.verb.Verb.TheVariants as verb;
 
@@ -192,6 +192,29 @@ fn number<'a>(alloc: Global, word: &'a [u8]) -> Result<Reading<'a, u16>, AllocEr
     }
 }
 
+/// A number of bytes that may not be 0.
+fn some_bytes<'a>(word: &'a [u8], number: u16) -> Reading<'a, u16>
+    ensures { shown_reading result ≡ some_bytes word.now (Ok number) }
+{
+    if number == 0 {
+        return Err((word, Refusal::NoBytes));
+    }
+    Ok(number)
+}
+
+/// The number after the address of this command. A watch is of at least one byte.
+fn count<'a>(alloc: Global, verb: Verb, word: &'a [u8]) -> Result<Reading<'a, u16>, AllocError>
+    ensures { IfOk result (λ read. shown_reading read ≡ typed_count verb word.now) }
+{
+    match verb {
+        Verb::Watch => match number(alloc, word)? {
+            Ok(number) => Ok(some_bytes(word, number)),
+            Err(why) => Ok(Err(why)),
+        },
+        _ => number(alloc, word),
+    }
+}
+
 /// `ADDR [N]`
 fn address_and_number<'a>(
     alloc: Global,
@@ -215,7 +238,7 @@ fn address_and_number<'a>(
     };
     match second {
         None => Ok(Ok((from, default))),
-        Some(word) => match number(alloc, word)? {
+        Some(word) => match count(alloc, verb, word)? {
             Ok(count) => Ok(Ok((from, count))),
             Err(why) => Ok(Err(why)),
         },
@@ -381,16 +404,6 @@ fn break_at<'a>(
     }
 }
 
-/// A watch, which is of at least one byte.
-fn watch_of<'a>(from: u16, count: u16) -> Reading<'a, Command>
-    ensures { shown_reading result ≡ watch (Ok (from, count)) }
-{
-    if count == 0 {
-        return Err((Verb::Watch.name(), Refusal::NoBytes));
-    }
-    Ok(Command::Watch(from, count))
-}
-
 /// `watch ADDR [N]`
 fn watch<'a>(
     alloc: Global,
@@ -401,7 +414,7 @@ fn watch<'a>(
     ensures { IfOk result (λ read. shown_reading read ≡ typed_as labels.now cpu.now verb.Watch (map (λ w. w.now) words.now)) }
 {
     match address_and_number(alloc, labels, cpu, Verb::Watch, 1, words)? {
-        Ok((from, count)) => Ok(watch_of(from, count)),
+        Ok((from, count)) => Ok(Ok(Command::Watch(from, count))),
         Err(why) => Ok(Err(why)),
     }
 }

@@ -20,7 +20,7 @@ pub enum Refusal {
     Turns,
     /// The word is not a number of bytes or instructions.
     Number,
-    /// A watch is of no byte.
+    /// The word is 0, and a watch is of at least one byte.
     NoBytes,
     /// No register is before the `=` of a condition.
     Register,
@@ -72,12 +72,12 @@ pub fn refusal_line(alloc: Global, refused: Refused<'_>) -> Result<Vec<u8>, Allo
             b": not a decimal number up to 18446744073709551615\n",
         ),
         Refusal::Number => named(alloc, word, b": not a number up to 65535\n"),
-        Refusal::NoBytes => named(alloc, word, b": at least one byte has to be watched\n"),
+        Refusal::NoBytes => named(alloc, word, b": watch needs at least one byte\n"),
         Refusal::Register => named(alloc, word, b": no register before =\n"),
         Refusal::Value => named(
             alloc,
             word,
-            b": after = comes a number, as 188 or 0BCH, or a label, as START+5, but no register\n",
+            b": after = a number up to 65535 or a label is needed, not a register\n",
         ),
         Refusal::OneByte => named(
             alloc,

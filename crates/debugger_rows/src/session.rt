@@ -4,6 +4,7 @@ use crate::input::{Debugged, begin, record_of, symbols_of};
 use crate::walk::walk;
 use debugger::{Labels, Session};
 use row_text::Row;
+use std::alloc::Global;
 
 /// Prints a command and its answer.
 fn answer_command(row: &mut Row, session: &mut Session, program: Debugged<'_>, command: &str) {
@@ -21,13 +22,26 @@ fn answer_command(row: &mut Row, session: &mut Session, program: Debugged<'_>, c
     }
 }
 
-/// The line of a listing that a command gives, if it gives one.
-fn listing_of(command: Option<&String>) -> Option<&str> {
-    command?.as_str().strip_prefix("listing ")
+/// The listing whose lines the commands give.
+fn listing_of(alloc: Global, commands: &[String]) -> Option<Vec<u8>> {
+    let mut listing = Vec::new(alloc);
+    for command in commands {
+        if let Some(line) = command.as_str().strip_prefix("listing ") {
+            listing.extend_from_slice(line.as_bytes()).ok()?;
+            listing.push(b'\n').ok()?;
+        }
+    }
+    Some(listing)
 }
 
 /// Prints the commands and their answers.
-fn answer_commands(row: &mut Row, program: Debugged<'_>, labels: &str, commands: &[String]) {
+fn answer_commands(
+    row: &mut Row,
+    program: Debugged<'_>,
+    labels: &str,
+    listing: &[u8],
+    commands: &[String],
+) {
     let alloc = row.alloc();
     let Some(symbols) = symbols_of(alloc, labels) else {
         row.refuse("labels");
@@ -41,8 +55,7 @@ fn answer_commands(row: &mut Row, program: Debugged<'_>, labels: &str, commands:
         row.refuse("no memory");
         return;
     };
-    let listing = listing_of(commands.first()).unwrap_or("");
-    let mut session = Session::new(alloc, history, labels).with_listing(listing.as_bytes());
+    let mut session = Session::new(alloc, history, labels).with_listing(listing);
     for command in commands {
         answer_command(row, &mut session, program, command.as_str());
     }
@@ -72,5 +85,9 @@ pub(crate) fn answer(row: &mut Row, lines: &[String]) {
         typed,
         recorded: &recorded,
     };
-    answer_commands(row, program, labels.as_str(), commands);
+    let Some(listing) = listing_of(row.alloc(), commands) else {
+        row.refuse("no memory");
+        return;
+    };
+    answer_commands(row, program, labels.as_str(), &listing, commands);
 }

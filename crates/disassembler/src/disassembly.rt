@@ -71,7 +71,7 @@ fn full_text(
     if layout.end < program.len() {
         lines.put_remark("The rest as bytes: a source has at most 20,000 statements.")?;
     }
-    put_plain(alloc, &mut lines, program, layout.end)?;
+    put_plain(&mut lines, program, layout.end)?;
     put_last_labels(alloc, &layout, &mut lines)?;
     Ok(lines.into_text())
 }
@@ -81,7 +81,7 @@ fn plain_text(alloc: Global, program: &[u8]) -> Result<Vec<u8>, AllocError> {
     let mut lines = Lines::new(alloc);
     put_head(alloc, &mut lines, program.len())?;
     lines.put_remark("Only bytes: a source with its instructions did not build to the same file.")?;
-    put_plain(alloc, &mut lines, program, 0)?;
+    put_plain(&mut lines, program, 0)?;
     Ok(lines.into_text())
 }
 

@@ -1,5 +1,6 @@
 //! Writes lines in columns: a label, a mnemonic, its operands, and a comment with the address.
 
+use state_text::put_byte_number;
 use std::alloc::{AllocError, Global};
 
 /// The column of mnemonics.
@@ -52,25 +53,30 @@ impl Lines {
     /// Writes a label. A long one, and one that another one follows, has a line of its own.
     pub(crate) fn put_label(&mut self, name: &[u8], address: u16) -> Result<(), AllocError> {
         if !self.line.is_empty() {
-            self.end_line(address, "")?;
+            self.end_line(address, b"")?;
         }
         self.line.extend_from_slice(name)?;
         self.line.push(b':')?;
         if self.line.len() >= MNEMONIC {
-            self.end_line(address, "")?;
+            self.end_line(address, b"")?;
         }
         Ok(())
     }
 
     /// Writes a mnemonic.
-    pub(crate) fn put_mnemonic(&mut self, mnemonic: &str) -> Result<(), AllocError> {
+    pub(crate) fn put_mnemonic(&mut self, mnemonic: &[u8]) -> Result<(), AllocError> {
         self.go_to(MNEMONIC)?;
-        self.line.extend_from_slice(mnemonic.as_bytes())
+        self.line.extend_from_slice(mnemonic)
     }
 
     /// Goes to where operands are.
     pub(crate) fn begin_operands(&mut self) -> Result<(), AllocError> {
         self.go_to(OPERANDS)
+    }
+
+    /// Writes a byte as a number.
+    pub(crate) fn put_byte(&mut self, byte: u8) -> Result<(), AllocError> {
+        put_byte_number(self.alloc, &mut self.line, byte)
     }
 
     /// Writes a part of the line as it is.
@@ -79,13 +85,13 @@ impl Lines {
     }
 
     /// Ends the line with a comment: its address, and a remark if there is one.
-    pub(crate) fn end_line(&mut self, address: u16, remark: &str) -> Result<(), AllocError> {
+    pub(crate) fn end_line(&mut self, address: u16, remark: &[u8]) -> Result<(), AllocError> {
         self.go_to(COMMENT)?;
         let comment = format!(in self.alloc; "; {address:04X}")?;
         self.line.extend_from_slice(comment.as_bytes())?;
         if !remark.is_empty() {
             self.line.push(b' ')?;
-            self.line.extend_from_slice(remark.as_bytes())?;
+            self.line.extend_from_slice(remark)?;
         }
         self.line.push(b'\n')?;
         self.text.extend_from_slice(&self.line)?;
@@ -98,6 +104,6 @@ impl Lines {
         if self.line.is_empty() {
             return Ok(());
         }
-        self.end_line(address, "")
+        self.end_line(address, b"")
     }
 }

@@ -7,23 +7,10 @@ use crate::lines::Lines;
 use crate::names::Names;
 use crate::place::{address_of, offset_of};
 use crate::reference::Reference;
+use bstr::ByteSlice;
+use state_text::{put_instr, put_word_number};
 use std::alloc::{AllocError, Global};
 use z80_table::encode;
-
-/// The 0 before a number that begins with a letter.
-fn zero_before(letter: bool) -> &'static str {
-    if letter { "0" } else { "" }
-}
-
-/// Answers a word as it is written.
-fn word_text(alloc: Global, nn: u16) -> Result<String, AllocError> {
-    format!(in alloc; "{}{nn:04X}H", zero_before(nn >= 0xA000))
-}
-
-/// Answers a byte as it is written.
-fn byte_text(alloc: Global, n: u8) -> Result<String, AllocError> {
-    format!(in alloc; "{}{n:02X}H", zero_before(n >= 0xA0))
-}
 
 /// Answers the name of a label that has none from the labels file.
 fn made_name(alloc: Global, address: u16) -> Result<Vec<u8>, AllocError> {
@@ -75,24 +62,25 @@ fn put_labels(
 fn put_named(
     alloc: Global,
     lines: &mut Lines,
-    operands: &str,
+    operands: &[u8],
     reference: Reference,
     name: &[u8],
 ) -> Result<(), AllocError> {
-    let number = word_text(alloc, reference.address())?;
+    let mut number = Vec::new(alloc);
+    put_word_number(alloc, &mut number, reference.address())?;
     let parts = match reference {
-        Reference::Relative(_) => operands.split_once('$'),
-        _ => operands.split_once(number.as_str()),
+        Reference::Relative(_) => operands.split_once_str(b"$"),
+        _ => operands.split_once_str(&number),
     };
     let Some((before, after)) = parts else {
-        return lines.put(operands.as_bytes());
+        return lines.put(operands);
     };
-    lines.put(before.as_bytes())?;
+    lines.put(before)?;
     lines.put(name)?;
     match reference {
         Reference::Relaxable(_) => lines.put(b"+0"),
         Reference::Target(_) | Reference::Relative(_) => Ok(()),
-        Reference::Word(_) => lines.put(after.as_bytes()),
+        Reference::Word(_) => lines.put(after),
     }
 }
 
@@ -101,16 +89,16 @@ fn put_operands(
     alloc: Global,
     names: &Names,
     lines: &mut Lines,
-    operands: &str,
+    operands: &[u8],
     found: Found,
 ) -> Result<(), AllocError> {
     let Some(reference) = found.reference() else {
-        return lines.put(operands.as_bytes());
+        return lines.put(operands);
     };
     let only_given = matches!(reference, Reference::Word(_));
     match name_at(alloc, names, reference.address(), only_given)? {
         Some(name) => put_named(alloc, lines, operands, reference, &name),
-        None => lines.put(operands.as_bytes()),
+        None => lines.put(operands),
     }
 }
 
@@ -130,37 +118,32 @@ fn put_code(
     found: Found,
     bytes: &[u8],
 ) -> Result<(), AllocError> {
-    let instr = found.instr;
-    let shown = format!(in alloc; "{instr}")?;
+    let mut shown = Vec::new(alloc);
+    put_instr(alloc, &mut shown, found.instr)?;
     if !is_canonical(found, bytes) {
-        lines.put_mnemonic("DB")?;
+        lines.put_mnemonic(b"DB")?;
         lines.begin_operands()?;
-        put_numbers(alloc, lines, bytes, "")?;
-        return lines.end_line(address_of(at), shown.as_str());
+        put_numbers(lines, bytes, b"")?;
+        return lines.end_line(address_of(at), &shown);
     }
-    match shown.as_str().split_once(' ') {
+    match shown.as_slice().split_once_str(b" ") {
         Some((mnemonic, operands)) => {
             lines.put_mnemonic(mnemonic)?;
             lines.begin_operands()?;
             put_operands(alloc, names, lines, operands, found)?;
         }
-        None => lines.put_mnemonic(shown.as_str())?,
+        None => lines.put_mnemonic(&shown)?,
     }
-    lines.end_line(address_of(at), "")
+    lines.end_line(address_of(at), b"")
 }
 
 /// Writes bytes as numbers, with commas between them and `before` in front of the first.
-fn put_numbers(
-    alloc: Global,
-    lines: &mut Lines,
-    bytes: &[u8],
-    before: &str,
-) -> Result<(), AllocError> {
+fn put_numbers(lines: &mut Lines, bytes: &[u8], before: &[u8]) -> Result<(), AllocError> {
     let mut comma = before;
     for byte in bytes {
-        lines.put(comma.as_bytes())?;
-        lines.put(byte_text(alloc, *byte)?.as_bytes())?;
-        comma = ",";
+        lines.put(comma)?;
+        lines.put_byte(*byte)?;
+        comma = b",";
     }
     Ok(())
 }
@@ -178,25 +161,25 @@ fn put_string(lines: &mut Lines, characters: &[u8]) -> Result<(), AllocError> {
 }
 
 /// Writes a line of data.
-fn put_data(alloc: Global, lines: &mut Lines, at: usize, bytes: &[u8]) -> Result<(), AllocError> {
-    lines.put_mnemonic("DB")?;
+fn put_data(lines: &mut Lines, at: usize, bytes: &[u8]) -> Result<(), AllocError> {
+    lines.put_mnemonic(b"DB")?;
     lines.begin_operands()?;
     let (characters, numbers) = bytes.split_at(string_len(bytes));
     if characters.is_empty() {
-        put_numbers(alloc, lines, numbers, "")?;
+        put_numbers(lines, numbers, b"")?;
     } else {
         put_string(lines, characters)?;
-        put_numbers(alloc, lines, numbers, ",")?;
+        put_numbers(lines, numbers, b",")?;
     }
-    lines.end_line(address_of(at), "")
+    lines.end_line(address_of(at), b"")
 }
 
 /// Writes bytes of zero.
 fn put_zeros(alloc: Global, lines: &mut Lines, at: usize, count: usize) -> Result<(), AllocError> {
-    lines.put_mnemonic("DS")?;
+    lines.put_mnemonic(b"DS")?;
     lines.begin_operands()?;
     lines.put(format!(in alloc; "{count}")?.as_bytes())?;
-    lines.end_line(address_of(at), "")
+    lines.end_line(address_of(at), b"")
 }
 
 /// Writes the item at an offset with its labels, and answers the offset of the next item.
@@ -211,7 +194,7 @@ fn put_item(
     match item {
         Item::Code(found, bytes) => put_code(alloc, &layout.names, lines, at, found, bytes)?,
         Item::Zeros(count) => put_zeros(alloc, lines, at, count)?,
-        Item::Data(bytes) => put_data(alloc, lines, at, bytes)?,
+        Item::Data(bytes) => put_data(lines, at, bytes)?,
     }
     Ok(at.saturating_add(item.len()))
 }
@@ -246,18 +229,13 @@ pub(crate) fn put_last_labels(
 const PLAIN_BYTES: usize = 32;
 
 /// Writes the bytes of a program from an offset on, as numbers only.
-pub(crate) fn put_plain(
-    alloc: Global,
-    lines: &mut Lines,
-    program: &[u8],
-    from: usize,
-) -> Result<(), AllocError> {
+pub(crate) fn put_plain(lines: &mut Lines, program: &[u8], from: usize) -> Result<(), AllocError> {
     let mut at = from;
     for bytes in program.get(from..).unwrap_or(&[]).chunks(PLAIN_BYTES) {
-        lines.put_mnemonic("DB")?;
+        lines.put_mnemonic(b"DB")?;
         lines.begin_operands()?;
-        put_numbers(alloc, lines, bytes, "")?;
-        lines.end_line(address_of(at), "")?;
+        put_numbers(lines, bytes, b"")?;
+        lines.end_line(address_of(at), b"")?;
         at = at.saturating_add(bytes.len());
     }
     Ok(())

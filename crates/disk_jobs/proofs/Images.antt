@@ -1,5 +1,5 @@
 -- How commands end that read, claim and change images.
-use Rattle.std.proofs.Common.{◌≡◌, ◌≢◌, ◌∙◌, ◌+◌, ◌<◌, ◌&&◌, ap, arith, false, get_or, map, not, take, ℕ, Bool, Bor, List, [], ◌∷◌, length, String, Vec, Option, None, Some, Result, Ok, Err, codes, inl, inr, refl, subst, sym, string_bytes}
+use Rattle.std.proofs.Common.{◌≡◌, ◌≢◌, ◌∙◌, ◌+◌, ◌<◌, ◌&&◌, ap, arith, cond, drop, false, find, true, get_or, map, not, take, ℕ, Bool, Bor, List, [], ◌∷◌, length, String, Vec, Option, None, Some, Result, Ok, Err, codes, inl, inr, refl, subst, sym, string_bytes}
 use Rattle.std.specs.Global.{Global}
 use Rattle.std.specs.Option.{option_map}
 use Rattle.std.specs.Result.{IsErrAnd}
@@ -10,7 +10,7 @@ use Rattle.z80dev_disk.specs.declared.refusal.Refusal.{Refusal}
 use Rattle.std.specs.List.{AllZip, concat}
 use Rattle.std.specs.Prelude.{◌⊎◌, ◌==◌}
 use Rattle.std.proofs.lemmas.Bool.{false≢true}
-use Rattle.std.proofs.lemmas.List.{get_or-map, length-map, map-append, take_more}
+use Rattle.std.proofs.lemmas.List.{at_drop_more, get_or-map, length-map, map-append, take_more}
 use Rattle.cpm_image.specs.Image.{blank_image}
 use Rattle.streams.specs.declared.writing.WriteFailed.{WriteFailed}
 use Rattle.z80dev_disk.specs.declared.getting.Gotten.{Gotten}
@@ -22,19 +22,20 @@ use Rattle.z80dev_finish.specs.declared.end.End.TheVariants as end
 use Rattle.z80dev_disk.specs.Put.{IsPutImage as IsPutOn}
 use Rattle.z80dev_disk.specs.Words.{file_name_of, own_name, pattern_of}
 use Rattle.z80dev_commands.specs.declared.job.Manner.{Manner}
-use Rattle.disk_jobs.specs.Disks.{BlankEnds, Changes, ChangesImage, Claiming, IsNotLocked, Named, NamedAll, PutEnds, Warns, GetsMatching, IsWrittenInto, NamedIfGiven, PutAllEnds, ReadsImage, WritesInto, as_put, bad_name, path_in, without_name, BlankIsMade, GivesUp, kind_of}
-use Rattle.claimed_images.specs.Claims.{warnings, ClaimsImage, ReadsImageFile, image_lines}
+use Rattle.disk_jobs.specs.Disks.{BlankEnds, Changes, ChangesImage, Claiming, IsNotLocked, Named, NamedAll, PutEnds, Warns, GetsMatching, IsWrittenInto, gotten_paths, over_image, NamedIfGiven, PutAllEnds, ReadsImage, WritesInto, as_put, bad_name, path_in, without_name, BlankIsMade, GivesUp, kind_of}
+use Rattle.job_steps.specs.Claims.{warnings, ClaimsImage, ReadsImageFile, image_lines}
 use Rattle.job_steps.specs.Reading.{IsNotRead, IsOneNotRead, IsRead}
 use Rattle.z80dev_finish.specs.Answers.{Answer, answer_by}
 use Rattle.z80dev_finish.specs.Finishing.{Finishes}
+use Rattle.z80dev_finish.specs.Paths.{is_same_path}
 use Rattle.z80dev_finish.specs.declared.answer.Answer as made
 use Rattle.z80dev_disk.specs.Get.{IsGetAll}
-use Rattle.job_steps.specs.Ending.{CarriesOut, Effect, IsCarriedOut, LineAt, NothingDone, With, WithAll, effect_of, RefusesText, EndsWith, end_in, line_put}
+use Rattle.job_steps.specs.Ending.{CarriesOut, Effect, IsCarriedOut, LineAt, IsClear, NothingDone, Refuses, UnlessRefused, With, WithAll, effect_of, RefusesText, EndsWith, end_in, line_put, over_text}
 use Rattle.disk_jobs.specs.Private.Images.{AreInto, ChangesInto, LocksPath, WritesAll}
 use Rattle.disk_jobs.specs.Private.Names.{AreNamed, AreNames, IsPatternIfGiven, IsRefusal, IsWord}
 use Rattle.disk_jobs.specs.Private.Steps.{DoneWith}
-use Rattle.claimed_images.specs.declared.image.Image.{Image}
-use Rattle.job_steps.proofs.Carried.{carried, no_line, refuses}
+use Rattle.job_steps.specs.declared.image.Image.{Image}
+use Rattle.job_steps.proofs.Carried.{carried, clear, no_line, refuses, unclear}
 
 -- how a command ends, from its end and its line
 pub ends : (Is : Option (List ℕ) → End → Type 0) (result : Result (Option (String Global)) End) → Is (line_put result) (end_in result) → EndsWith Is result
@@ -328,9 +329,21 @@ module _ (image : List ℕ) (user : ℕ) (text : Bool) (pattern folder : List �
       let nothing : NothingDone x = subst (λ f. NothingDone (effect_of old f o o)) (sym reads.0) (nothing_done old o) in (
         image_lines read,
         no_line e (image_lines read) (says_not_done (refusal_text why) e says),
-        read_then image (λ bytes. (r : Result (Vec Gotten Global) Refusal) × IsGetAll bytes user pattern text r × IsWrittenInto folder r x e) mid x read e reads
+        read_then image (λ bytes. (r : Result (Vec Gotten Global) Refusal) × IsGetAll bytes user pattern text r × IsWrittenInto image folder r x e) mid x read e reads
             (Err why, is, refuses (refusal_text why) x e says nothing),
       )
+
+  -- that memory ran out, or the refusal to write over the image
+  not_clear : (why : Option (List ℕ)) (e : End) → IsClear why (Err e) → e ≢ end.Done
+  not_clear None e out done = no_memory (sym out ∙ done)
+  not_clear (Some why) e says done = says_not_done why e says done
+
+  out_unless : (why : Option (List ℕ)) (Does : Type 0) (x : Effect) (e : End) → e ≡ end.NoMemory → NothingDone x → (NothingDone x → Does) → UnlessRefused why Does x e
+  out_unless None Does x e out nothing does = does nothing
+  out_unless (Some why) Does x e out nothing does = subst (Refuses why x) (sym out) nothing
+
+  abbrev pub over : List Gotten → Option (List ℕ)
+  over files = over_image image (gotten_paths folder files)
 
   pub gets_out : (old mid : Folder) (o : Stream) (read : Image) (files : Vec Gotten Global) (e : End) → ReadsImageFile old mid image (Ok read) → IsGetAll read.bytes.items user pattern text (Ok files) → e ≡ end.NoMemory
       → Warns (GetsMatching image user text pattern folder (effect_of old mid o o)) None e
@@ -339,36 +352,67 @@ module _ (image : List ℕ) (user : ℕ) (text : Bool) (pattern folder : List �
       let nothing : NothingDone x = subst (λ f. NothingDone (effect_of old f o o)) (sym reads.0) (nothing_done old o) in (
         image_lines read,
         no_line e (image_lines read) (λ done. no_memory (sym out ∙ done)),
-        read_then image (λ bytes. (r : Result (Vec Gotten Global) Refusal) × IsGetAll bytes user pattern text r × IsWrittenInto folder r x e) mid x read e reads
-            (Ok files, is, subst (WritesInto folder files.items x) (sym out) nothing),
+        read_then image (λ bytes. (r : Result (Vec Gotten Global) Refusal) × IsGetAll bytes user pattern text r × IsWrittenInto image folder r x e) mid x read e reads
+            (Ok files, is, out_unless (over files.items) (WritesInto folder files.items x e) x e out nothing (λ none. subst (WritesInto folder files.items x) (sym out) none)),
+      )
+
+  pub gets_over : (old mid : Folder) (o : Stream) (read : Image) (files : Vec Gotten Global) (e : End) → ReadsImageFile old mid image (Ok read) → IsGetAll read.bytes.items user pattern text (Ok files)
+      → IsClear (over files.items) (Err e) → Warns (GetsMatching image user text pattern folder (effect_of old mid o o)) None e
+  gets_over old mid o read files e reads is refused =
+      let x = effect_of old mid o o in
+      let nothing : NothingDone x = subst (λ f. NothingDone (effect_of old f o o)) (sym reads.0) (nothing_done old o) in (
+        image_lines read,
+        no_line e (image_lines read) (not_clear (over files.items) e refused),
+        read_then image (λ bytes. (r : Result (Vec Gotten Global) Refusal) × IsGetAll bytes user pattern text r × IsWrittenInto image folder r x e) mid x read e reads
+            (Ok files, is, unclear (over files.items) (WritesInto folder files.items x e) x e refused nothing (λ out. subst (WritesInto folder files.items x) (sym out) nothing)),
       )
 
   pub gets_stopped : (old mid new : Folder) (o : Stream) (read : Image) (files : Vec Gotten Global) (e : End) → ReadsImageFile old mid image (Ok read) → IsGetAll read.bytes.items user pattern text (Ok files)
-      → WritesAll folder files.items mid new (Err e) → Warns (GetsMatching image user text pattern folder (effect_of old new o o)) None e
-  gets_stopped old mid new o read files (end.Path path) reads is writes =
+      → over files.items ≡ None → WritesAll folder files.items mid new (Err e) → Warns (GetsMatching image user text pattern folder (effect_of old new o o)) None e
+  gets_stopped old mid new o read files (end.Path path) reads is none writes =
       let x = effect_of old new o o in
       let from = subst (λ f. WritesAll folder files.items f new (Err (end.Path path))) reads.0 writes in (
         image_lines read,
         refl,
-        read_then image (λ bytes. (r : Result (Vec Gotten Global) Refusal) × IsGetAll bytes user pattern text r × IsWrittenInto folder r x (end.Path path)) mid x read (end.Path path) reads
-            (Ok files, is, (from.0, from.1, from.2, from.3, from.4, from.5, refl)),
+        read_then image (λ bytes. (r : Result (Vec Gotten Global) Refusal) × IsGetAll bytes user pattern text r × IsWrittenInto image folder r x (end.Path path)) mid x read (end.Path path) reads
+            (Ok files, is, clear (over files.items) (WritesInto folder files.items x (end.Path path)) x (end.Path path) none (from.0, from.1, from.2, from.3, from.4, from.5, refl)),
       )
-  gets_stopped old mid new o read files end.Done reads is writes = absurd writes
-  gets_stopped old mid new o read files (end.Refused said) reads is writes = absurd writes
-  gets_stopped old mid new o read files (end.File at last) reads is writes = absurd writes
-  gets_stopped old mid new o read files end.Stream reads is writes = absurd writes
-  gets_stopped old mid new o read files end.NoMemory reads is writes = absurd writes
+  gets_stopped old mid new o read files end.Done reads is none writes = absurd writes
+  gets_stopped old mid new o read files (end.Refused said) reads is none writes = absurd writes
+  gets_stopped old mid new o read files (end.File at last) reads is none writes = absurd writes
+  gets_stopped old mid new o read files end.Stream reads is none writes = absurd writes
+  gets_stopped old mid new o read files end.NoMemory reads is none writes = absurd writes
 
   pub gets_all : (old mid new : Folder) (o : Stream) (read : Image) (files : Vec Gotten Global) (line : Option (String Global)) → ReadsImageFile old mid image (Ok read) → IsGetAll read.bytes.items user pattern text (Ok files)
-      → AreInto folder files.items mid new → line ≡ read.warnings → Warns (GetsMatching image user text pattern folder (effect_of old new o o)) (option_map string_bytes line) end.Done
-  gets_all old mid new o read files line reads is into same =
+      → over files.items ≡ None → AreInto folder files.items mid new → line ≡ read.warnings → Warns (GetsMatching image user text pattern folder (effect_of old new o o)) (option_map string_bytes line) end.Done
+  gets_all old mid new o read files line reads is none into same =
       let x = effect_of old new o o in
       let from = subst (λ f. AreInto folder files.items f new) reads.0 into in (
         image_lines read,
         ap (option_map string_bytes) same,
-        read_then image (λ bytes. (r : Result (Vec Gotten Global) Refusal) × IsGetAll bytes user pattern text r × IsWrittenInto folder r x end.Done) mid x read end.Done reads
-            (Ok files, is, (from.0, from.1, refl)),
+        read_then image (λ bytes. (r : Result (Vec Gotten Global) Refusal) × IsGetAll bytes user pattern text r × IsWrittenInto image folder r x end.Done) mid x read end.Done reads
+            (Ok files, is, clear (over files.items) (WritesInto folder files.items x end.Done) x end.Done none (from.0, from.1, refl)),
       )
+
+-- the first path for which this holds, looked for one after the other
+module _ (holds : List ℕ → Bool) (paths : List (String Global)) (k : ℕ) (this : String Global) (lt : k < length paths) (is : this ≡ get_or paths k this)
+    (so_far : find holds (map string_bytes (drop k paths)) ≡ find holds (map string_bytes paths)) where
+  here : find holds (map string_bytes (drop k paths)) ≡ cond (holds (string_bytes this)) (Some (string_bytes this)) (find holds (map string_bytes (drop (k + 1) paths)))
+  here = at_drop_more (λ ps. find holds (map string_bytes ps)) paths k this lt
+      ∙ ap (λ p. cond (holds (string_bytes p)) (Some (string_bytes p)) (find holds (map string_bytes (drop (k + 1) paths)))) (sym is)
+
+  pub found_here : holds (string_bytes this) ≡ true → Some (string_bytes this) ≡ find holds (map string_bytes paths)
+  found_here does = sym (sym so_far ∙ here ∙ ap (λ b. cond b (Some (string_bytes this)) (find holds (map string_bytes (drop (k + 1) paths)))) does)
+
+  pub not_here : holds (string_bytes this) ≡ false → find holds (map string_bytes (drop (k + 1) paths)) ≡ find holds (map string_bytes paths)
+  not_here other = sym (here ∙ ap (λ b. cond b (Some (string_bytes this)) (find holds (map string_bytes (drop (k + 1) paths)))) other) ∙ so_far
+
+-- one path, which names the image or not
+pub over_none : (image path : List ℕ) → is_same_path path image ≡ false → over_image image (path ∷ []) ≡ None
+over_none image path other = ap (λ same. option_map over_text (cond same (Some path) None)) other
+
+pub over_this : (image path : List ℕ) → is_same_path path image ≡ true → over_image image (path ∷ []) ≡ Some (over_text path)
+over_this image path same = ap (λ same. option_map over_text (cond same (Some path) None)) same
 
 -- the path of a file that is written into a folder, by its number
 pub path_at : (folder : List ℕ) (paths : List (String Global)) (gotten : List Gotten) (k : ℕ) (p : String Global) (d : Gotten) → map string_bytes paths ≡ map (λ g. (path_in folder g).0) gotten → k < length gotten

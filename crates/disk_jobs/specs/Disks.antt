@@ -1,5 +1,5 @@
 -- How the commands on images of disks end.
-use Rattle.std.specs.Prelude.{◌≡◌, ◌≢◌, ◌⊎◌, ℕ, ◌+◌, Bool, true, false, ◌&&◌, not, List, [], ◌∷◌, ◌++◌, Option, None, Some, Result, Ok, Err, Vec, codes, length, map, slice_get, string_bytes, take, ◌<◌}
+use Rattle.std.specs.Prelude.{◌≡◌, ◌≢◌, ◌⊎◌, ℕ, ◌+◌, Bool, true, false, ◌&&◌, not, List, [], ◌∷◌, ◌++◌, Option, None, Some, Result, Ok, Err, Vec, codes, find, length, map, option_map, slice_get, string_bytes, take, ◌<◌}
 use Rattle.std.specs.Borrow.{Bor}
 use Rattle.std.specs.Global.{Global}
 use Rattle.std.specs.List.{AllZip, concat}
@@ -29,9 +29,9 @@ use Rattle.z80dev_finish.specs.Answers.{MemoryAside}
 use Rattle.z80dev_finish.specs.Files.{Adds, FailsSo, File, Folder, IsLockWanted, IsToBeKept, Places, Replaced, ReplacedOrNot, after_asking, locked_by, spent}
 use Rattle.z80dev_finish.specs.declared.end.End.{End}
 use Rattle.z80dev_finish.specs.declared.end.End.TheVariants as end
-use Rattle.job_steps.specs.Ending.{CarriesOut, Effect, LineAt, NothingDone, Refuses, With, WithAll, over_text}
+use Rattle.job_steps.specs.Ending.{CarriesOut, Effect, LineAt, NothingDone, Refuses, UnlessRefused, With, WithAll, over_text}
 use Rattle.z80dev_finish.specs.Paths.{is_same_path}
-use Rattle.claimed_images.specs.Claims.{warnings, HasClaimed, IsNotClaimed, KeepsFile}
+use Rattle.job_steps.specs.Claims.{warnings, HasClaimed, IsNotClaimed, KeepsFile}
 use Rattle.cpm_directory.specs.declared.entry.TheConstants.{USERS}
 
 -- A command ends, with its warnings on standard error if all is done.
@@ -151,9 +151,18 @@ WritesInto folder files x (end.Path path) = (n : ℕ) × (g : Gotten) × (slice_
 WritesInto folder files x end.NoMemory = NothingDone x
 WritesInto folder files x _ = ⊥
 
-abbrev pub IsWrittenInto : List ℕ → Result (Vec Gotten Global) Refusal → Effect → End → Type 0
-IsWrittenInto folder (Ok files) x e = WritesInto folder files.items x e
-IsWrittenInto folder (Err why) x e = Refuses (refusal_text why) x e
+-- why no file may come to these paths: the first of them that names the image that is read
+abbrev pub over_image : List ℕ → List (List ℕ) → Option (List ℕ)
+over_image image paths = option_map over_text (find (λ path. is_same_path path image) paths)
+
+-- the path of each file in a folder
+abbrev pub gotten_paths : List ℕ → List Gotten → List (List ℕ)
+gotten_paths folder files = map (λ g. (path_in folder g).0) files
+
+-- The files come into the folder, unless one would be written over the image: then none is written.
+abbrev pub IsWrittenInto : List ℕ → List ℕ → Result (Vec Gotten Global) Refusal → Effect → End → Type 0
+IsWrittenInto image folder (Ok files) x e = UnlessRefused (over_image image (gotten_paths folder files.items)) (WritesInto folder files.items x e) x e
+IsWrittenInto image folder (Err why) x e = Refuses (refusal_text why) x e
 
 -- A folder has a path that is not empty: with an empty one, files would come into the root.
 abbrev pub IsNoFolder : Effect → End → Type 0
@@ -165,7 +174,7 @@ InFolder folder Rest x e = ((folder ≢ []) × Rest) ⊎ ((folder ≡ []) × IsN
 
 -- `get` of all files that match a pattern
 abbrev pub GetsMatching : List ℕ → ℕ → Bool → List ℕ → List ℕ → Effect → Option (List ℕ) → End → Type 0
-GetsMatching image user text pattern folder x wanted e = ReadsImage image (λ bytes. (r : Result (Vec Gotten Global) Refusal) × IsGetAll bytes user pattern text r × IsWrittenInto folder r x e) x wanted e
+GetsMatching image user text pattern folder x wanted e = ReadsImage image (λ bytes. (r : Result (Vec Gotten Global) Refusal) × IsGetAll bytes user pattern text r × IsWrittenInto image folder r x e) x wanted e
 
 abbrev pub GetsInto : List ℕ → ℕ → Bool → List ℕ → List ℕ → Effect → Option (List ℕ) → End → Type 0
 GetsInto image user text pattern folder x wanted e = InFolder folder (GetsMatching image user text pattern folder x wanted e) x e
@@ -174,18 +183,13 @@ GetsInto image user text pattern folder x wanted e = InFolder folder (GetsMatchi
 abbrev pub GetAllEnds : List ℕ → ℕ → Bool → List ℕ → Effect → Option (List ℕ) → End → Type 0
 GetAllEnds image user text folder x line e = Warns (λ wanted e. GetsInto image user text (codes "???????????") folder x wanted e) line e
 
--- A command that would write over a file that it reads refuses that before it reads anything.
-abbrev pub UnlessRead : Bool → List ℕ → Type 0 → Effect → End → Type 0
-UnlessRead true path Rest x e = Refuses (over_text path) x e
-UnlessRead false path Rest x e = Rest
-
 -- the file of a name, at a path
 abbrev pub GetsTo : List ℕ → List ℕ → ℕ → Bool → List ℕ → Effect → Option (List ℕ) → End → Type 0
 GetsTo name image user text path x wanted e = ReadsImage image (λ bytes. CarriesOut path (MemoryAside (IsGet bytes user name text)) x e) x wanted e
 
--- `get`: the file of a name; or into a folder all that match, if the word has `?` or `*`
+-- `get`: the file of a name, unless it would overwrite the image; or into a folder all that match, if the word has `?` or `*`
 abbrev pub GetsNamed : Option (List ℕ) → List ℕ → ℕ → Bool → List ℕ → List ℕ → Effect → Option (List ℕ) → End → Type 0
-GetsNamed (Some name) image user text word path x wanted e = UnlessRead (is_same_path path image) path (GetsTo name image user text path x wanted e) x e
+GetsNamed (Some name) image user text word path x wanted e = UnlessRefused (over_image image (path ∷ [])) (GetsTo name image user text path x wanted e) x e
 GetsNamed None image user text word path x wanted e = Named (pattern_of word) (λ pattern. GetsInto image user text pattern path x wanted e) x e
 
 abbrev pub GetEnds : Get → Effect → Option (List ℕ) → End → Type 0

@@ -4,7 +4,7 @@ ghost use Rattle.z80dev_finish.specs.Files.{IsFree};
 ghost use Rattle.disk_jobs.specs.Private.Images.{ChangesInto};
 
 use crate::names::refusal_end;
-use claimed_images::{Image, keep};
+use job_steps::{Image, keep};
 use std::alloc::Global;
 use z80dev_disk::Refusal;
 use z80dev_finish::{End, Files};

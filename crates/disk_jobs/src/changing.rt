@@ -10,8 +10,7 @@ ghost use Rattle.disk_jobs.specs.Private.Images.{ArePuts, LocksPath};
 
 use crate::change::change;
 use crate::names::{name_of, own_names, patterns_of, refusal_end};
-use claimed_images::{claim, warnings};
-use job_steps::{read, read_all};
+use job_steps::{claim, read, read_all, warnings};
 use std::alloc::{AllocError, Global};
 use z80dev_commands::{Attribute, Manner, Target};
 use z80dev_disk::{

@@ -1,16 +1,17 @@
 //! The commands that get files from a disk.
 
-ghost use Rattle.std.specs.Prelude.{◌≡◌, ◌<◌, IfOk, List, Some, length, map, ℕ, string_bytes};
+ghost use Rattle.std.specs.Prelude.{◌≡◌, ◌<◌, IfOk, List, Some, find, length, map, option_map, ℕ, string_bytes};
+ghost use Rattle.z80dev_finish.specs.Paths.{is_same_path};
 ghost use Rattle.cpm_directory.specs.declared.entry.TheConstants.{USERS};
 ghost use Rattle.streams.specs.Stream.{Stream};
-ghost use Rattle.disk_jobs.specs.Disks.{GetAllEnds, GetEnds, GetsInto, GetsMatching, GetsNamed, GetsTo, path_in};
-ghost use Rattle.job_steps.specs.Ending.{effect_of, EndsWith};
+ghost use Rattle.disk_jobs.specs.Disks.{GetAllEnds, GetEnds, GetsInto, GetsMatching, GetsNamed, GetsTo, gotten_paths, over_image};
+ghost use Rattle.job_steps.specs.Ending.{effect_of, EndsWith, IsClear};
 ghost use Rattle.disk_jobs.specs.Private.Images.{WritesAll};
 ghost use Rattle.disk_jobs.specs.Private.Steps.{EndsWarned};
 
 use crate::listing::done_with;
 use crate::names::{pattern_of_word, refusal_end};
-use claimed_images::read_image;
+use job_steps::read_image;
 use std::alloc::{AllocError, Global};
 use streams::Sink;
 use z80dev_commands::Get;
@@ -22,7 +23,7 @@ const ALL: [u8; 11] = [b'?'; 11];
 
 /// The path of each file in a folder.
 fn paths_in(alloc: Global, folder: &str, gotten: &[Gotten]) -> Result<Vec<String>, AllocError>
-    ensures { IfOk result (λ paths. map string_bytes paths.items ≡ map (λ g. (path_in folder.now g).0) gotten.now) }
+    ensures { IfOk result (λ paths. map string_bytes paths.items ≡ gotten_paths folder.now gotten.now) }
 {
     let mut paths = Vec::with_capacity(alloc, gotten.len())?;
     for file in gotten {
@@ -30,6 +31,28 @@ fn paths_in(alloc: Global, folder: &str, gotten: &[Gotten]) -> Result<Vec<String
         paths.push(format!(in alloc; "{folder}/{name}")?)?;
     }
     Ok(paths)
+}
+
+/// The first path that names the image.
+fn first_over<'p>(image: &str, paths: &'p [String]) -> Option<&'p String>
+    ensures { option_map (λ path. string_bytes path.now) result ≡ find (λ path. is_same_path path image.now) (map string_bytes paths.now) }
+{
+    for path in paths {
+        if is_same_path(path, image) {
+            return Some(path);
+        }
+    }
+    None
+}
+
+/// Refuses to write over the image that the files are read from.
+fn refuse_image(alloc: Global, image: &str, paths: &[String]) -> Result<(), End<'static>>
+    ensures { IsClear (over_image image.now (map string_bytes paths.now)) result }
+{
+    match first_over(image, paths) {
+        Some(path) => Err(End::Refused(format!(in alloc; "Overwrites({path})")?)),
+        None => Ok(()),
+    }
 }
 
 /// Writes files into a folder, each under its path. The paths are there beforehand: once a file is written, it is too late to run out of
@@ -40,7 +63,7 @@ fn write_into<'a, F: Files>(
     gotten: &[Gotten],
     files: &mut F,
 ) -> Result<(), End<'a>>
-    requires { map string_bytes paths.items ≡ map (λ g. (path_in folder.now g).0) gotten.now }
+    requires { map string_bytes paths.items ≡ gotten_paths folder.now gotten.now }
     ensures { WritesAll folder.now gotten.now (F.folder files.old) (F.folder files.new) result }
 {
     for (number, file) in gotten.iter().enumerate() {
@@ -51,7 +74,7 @@ fn write_into<'a, F: Files>(
     Ok(())
 }
 
-/// Gets the files of a user that match a pattern into a folder, whose path is not empty.
+/// Gets the files of a user that match a pattern into a folder, whose path is not empty. If one of them would overwrite the image, none is written.
 fn get_matching<'a, F: Files>(
     alloc: Global,
     image: &'a str,
@@ -68,6 +91,7 @@ fn get_matching<'a, F: Files>(
     match get_all(alloc, &read.bytes, user, pattern, text) {
         Ok(gotten) => {
             let paths = paths_in(alloc, folder, &gotten)?;
+            refuse_image(alloc, image, &paths)?;
             write_into(folder, paths, &gotten, files)?;
             Ok(read.warnings)
         }

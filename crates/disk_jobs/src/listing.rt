@@ -5,7 +5,7 @@ ghost use Rattle.job_steps.specs.Ending.{effect_of, EndsWith};
 ghost use Rattle.disk_jobs.specs.Private.Steps.{DoneWith};
 
 use crate::names::pattern_if_given;
-use claimed_images::read_image;
+use job_steps::read_image;
 use std::alloc::Global;
 use streams::Sink;
 use z80dev_disk::{Asked, check_disk, dir};

@@ -5,8 +5,7 @@ use crate::source::SourceLines;
 use asm_line::{BlockWord, Form, Head, form_of, is_name};
 use asm_replace::arguments;
 use asm_scan::{Kind, Mark, Token};
-use message_texts::{joined, shown, token_named};
-use operand_forms::{name_in, tokens_of};
+use message_texts::{joined, name_in, shown, token_named, tokens_of};
 use std::alloc::{AllocError, Global};
 
 /// The arguments of a call.

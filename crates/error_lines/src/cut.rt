@@ -2,7 +2,7 @@
 
 use crate::case::Case;
 use asm_line::{is_comma, open_behind};
-use operand_forms::{DEEPEST, Operand};
+use message_texts::{DEEPEST, Operand};
 use std::alloc::AllocError;
 
 /// The operands of a line: the tokens after its word, which commas outside of parentheses separate. No tokens are no operands.

@@ -5,7 +5,7 @@ use crate::trial::builds;
 use message_texts::{Draft, joined, shown};
 use std::alloc::AllocError;
 
-/// The message about an EQU without a name before it. The name may be behind it.
+/// The message about an EQU without a name before it. The name may come after it.
 ///
 /// # Errors
 ///

@@ -4,7 +4,7 @@ use asm_line::{BlockWord, Form, Head, form_of};
 use asm_text::Lines;
 use common::NameKey;
 use indexmap::IndexMap;
-use operand_forms::tokens_of;
+use message_texts::tokens_of;
 use std::alloc::{AllocError, Global};
 
 /// Why a line may not be assembled.

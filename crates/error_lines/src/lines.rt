@@ -5,9 +5,7 @@ use asm_line::{BlockWord, Form, Head, form_of};
 use asm_macro::MacroFault;
 use asm_module::Why;
 use bstr::ByteSlice;
-use foreign_words::{Opening, closes, opens};
-use message_texts::token_named;
-use operand_forms::tokens_of;
+use message_texts::{Opening, closes, opens, token_named, tokens_of};
 use source_errors::Finding;
 use std::alloc::{AllocError, Global};
 

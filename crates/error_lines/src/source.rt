@@ -7,8 +7,7 @@ use asm_text::Lines;
 use bstr::ByteSlice;
 use common::NameKey;
 use indexmap::IndexMap;
-use message_texts::shown;
-use operand_forms::tokens_of;
+use message_texts::{shown, tokens_of};
 use std::alloc::{AllocError, Global};
 
 /// How many lines come before those of a source itself.

@@ -7,8 +7,7 @@ use asm_parse::Tree;
 use asm_scan::Token;
 use asm_spell::{Body, Line, StmtFault, Value, statement};
 use common::is_reserved;
-use message_texts::{joined, shown};
-use operand_forms::tokens_of;
+use message_texts::{joined, shown, tokens_of};
 use std::alloc::{AllocError, Global};
 use z80_form::Field;
 

@@ -7,9 +7,9 @@ use error_lines::{
     Case, Divided, Worth, closers_after, is_in_repetition, judge, open_condition, other_opener,
     word_in,
 };
-use foreign_words::{Opening, directive_instead, opens};
-use message_texts::{Draft, joined, shown};
-use operand_forms::{reserved_text, tokens_of};
+use message_texts::{
+    Draft, Opening, directive_instead, joined, opens, reserved_text, shown, tokens_of,
+};
 use std::alloc::{AllocError, Global};
 
 /// A block word as it is written.
@@ -92,7 +92,7 @@ fn block_word_at(case: &Case<'_>, number: u32) -> Result<String, AllocError> {
     format!(in case.alloc; "{word} {at}")
 }
 
-/// The message about the second ELSE of an IF; None if it is none, or is in a macro or a REPT.
+/// The message about the second ELSE of an IF. None if this ELSE is not the second, or is in a macro or a REPT.
 fn second_else(case: &Case<'_>) -> Result<Option<Draft>, AllocError> {
     let alloc = case.alloc;
     if case.is_expanded() {

@@ -6,8 +6,7 @@ use bstr::ByteSlice;
 use common::{NameKey, is_reserved};
 use error_lines::{Case, Wanted, Why, first_line};
 use indexmap::IndexMap;
-use message_texts::{Draft, shown};
-use operand_forms::tokens_of;
+use message_texts::{Draft, shown, tokens_of};
 use std::alloc::AllocError;
 
 /// Names in upper case that EQU lines define from numbers alone, and those lines.

@@ -73,7 +73,7 @@ fn on_statement(case: &Case<'_>, why: StmtFault) -> Result<Draft, AllocError> {
     }
 }
 
-/// The message about an expression that is none, or that has no value.
+/// The message about tokens that are no expression, or about one that has no value.
 fn on_expression(case: &Case<'_>, why: ExprFault) -> Result<Draft, AllocError> {
     match why {
         ExprFault::Syntax => syntax_errors::no_expression(case),

@@ -3,8 +3,7 @@
 use asm_line::is_name;
 use common::is_reserved;
 use error_lines::{Case, Why};
-use foreign_words::is_undocumented_register;
-use message_texts::{Draft, shown, token_named};
+use message_texts::{Draft, is_undocumented_register, shown, token_named};
 use source_errors::Known;
 use statement_errors::{is_near, with_underscore};
 use std::alloc::AllocError;

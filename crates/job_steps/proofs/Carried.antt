@@ -12,7 +12,7 @@ use Rattle.z80dev_finish.specs.declared.answer.Answer as made
 use Rattle.z80dev_finish.specs.declared.end.End.{End}
 use Rattle.z80dev_finish.specs.declared.end.End.TheVariants as end
 use Rattle.job_steps.specs.Reporting.{TellsWith}
-use Rattle.job_steps.specs.Ending.{IsCarriedOut, LineAt, effect_of, Effect, NothingDone, Refuses, RefusesText}
+use Rattle.job_steps.specs.Ending.{IsCarriedOut, IsClear, LineAt, effect_of, Effect, NothingDone, Refuses, RefusesText, UnlessRefused}
 
 why_said : {R : Type 0} (text : R → List ℕ) (refusal : Option R) (said : Option (List ℕ)) → IsWhy (λ r. Some (text r)) refusal said → option_map text refusal ≡ said
 why_said text None None none = refl
@@ -69,3 +69,12 @@ refuses why x end.Done says nothing = absurd says
 refuses why x (end.File path last) says nothing = absurd says
 refuses why x (end.Path path) says nothing = absurd says
 refuses why x end.Stream says nothing = absurd says
+
+-- a command that may write its files
+pub clear : (why : Option (List ℕ)) (Does : Type 0) (x : Effect) (e : End) → why ≡ None → Does → UnlessRefused why Does x e
+clear why Does x e none does = subst (λ w. UnlessRefused w Does x e) (sym none) does
+
+-- a command that may not, or for which memory ran out
+pub unclear : (why : Option (List ℕ)) (Does : Type 0) (x : Effect) (e : End) → IsClear why (Err e) → NothingDone x → (e ≡ end.NoMemory → Does) → UnlessRefused why Does x e
+unclear None Does x e out nothing does = does out
+unclear (Some why) Does x e says nothing does = refuses why x e says nothing

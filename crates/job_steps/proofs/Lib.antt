@@ -1,4 +1,4 @@
 pub mod Carried
 pub mod Defined
-pub mod Given
+mod Given
 pub mod One_by_one

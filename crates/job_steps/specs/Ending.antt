@@ -1,5 +1,5 @@
 -- How commands end that read files, make files of them, and print lines.
-use Rattle.std.specs.Prelude.{ℕ, List, ◌++◌, codes, ◌≡◌, ◌⊎◌, [], Option, None, Result, Ok, Err, string_bytes, String, Vec, option_map}
+use Rattle.std.specs.Prelude.{ℕ, List, ◌++◌, codes, ◌≡◌, ◌⊎◌, [], Option, None, Some, Result, Ok, Err, string_bytes, String, Vec, option_map}
 use Rattle.std.specs.List.{AllZip}
 use Rattle.streams.specs.Stream.{Stream}
 use Rattle.z80dev_finish.specs.Answers.{Answer}
@@ -39,6 +39,11 @@ Refuses why x (end.Refused said) = (string_bytes said ≡ why) × NothingDone x
 Refuses why x end.NoMemory = NothingDone x
 Refuses why x _ = ⊥
 
+-- If there is a reason why it may not write its files, the command refuses with it. Otherwise it continues.
+abbrev pub UnlessRefused : Option (List ℕ) → Type 0 → Effect → End → Type 0
+UnlessRefused None Does x e = Does
+UnlessRefused (Some why) Does x e = Refuses why x e
+
 -- The files of an answer are written, its lines are printed, and what it says is the end.
 abbrev pub IsCarriedOut : List ℕ → Answer → Effect → End → Type 0
 IsCarriedOut base a x e = WritesAndPrints base a.files a.printed (λ said. a.said ≡ said) x.old x.new x.before x.after e
@@ -70,6 +75,12 @@ abbrev pub RefusesText : List ℕ → End → Type 0
 RefusesText why (end.Refused said) = string_bytes said ≡ why
 RefusesText why end.NoMemory = Unit {0}
 RefusesText why _ = ⊥
+
+-- a command may write its files, or this is why it may not
+abbrev pub IsClear : Option (List ℕ) → Result Unit End → Type 0
+IsClear why (Ok _) = why ≡ None
+IsClear None (Err e) = e ≡ end.NoMemory
+IsClear (Some why) (Err e) = RefusesText why e
 
 -- all is done, with a line or none; or it ends otherwise
 abbrev pub EndsWith : (Option (List ℕ) → End → Type 0) → Result (Option (String Global)) End → Type 0

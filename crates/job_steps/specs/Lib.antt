@@ -1,4 +1,5 @@
-pub mod World
-pub mod Reading
 pub mod Ending
+pub mod Reading
 pub mod Reporting
+pub mod World
+pub mod Claims

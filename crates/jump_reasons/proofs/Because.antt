@@ -7,8 +7,8 @@ use Rattle.std.proofs.lemmas.List.{length-take-le}
 use Rattle.std.proofs.lemmas.List.Elements.{All-head, All-tail, All-take, All-weaker, filter_passes}
 use Rattle.std.proofs.lemmas.List.Folds.{list_any_none}
 use Rattle.std.proofs.lemmas.List.Sums.{length-filter, sum_by-cons, sum_by-take-le}
-use Rattle.ruler.specs.declared.shape.Statement.{Statement}
-use Rattle.ruler.specs.Choice.{IsJump, Reaches}
+use Rattle.relax.specs.declared.shape.Statement.{Statement}
+use Rattle.relax.specs.Choice.{IsJump, Reaches}
 use Rattle.relax.specs.Growth.{IsForcing, after}
 use Rattle.jump_reasons.specs.Distances.{farthest, jump_distance, lies_between}
 use Rattle.jump_reasons.specs.Reasons.{IsReason}

@@ -5,9 +5,9 @@ use Rattle.std.proofs.lemmas.List.{append-nil, length-take-le, map-append, take_
 use Rattle.std.proofs.lemmas.List.Elements.{All-get_or, All-push, All-weaker, filter_map-append}
 use Rattle.std.proofs.lemmas.Option.{slice_get-get_or}
 use Rattle.std.proofs.lemmas.List.Sorted.{IsNonDecreasingBy-push}
-use Rattle.ruler.specs.declared.shape.Statement.{Statement}
-use Rattle.ruler.specs.declared.shape.Statement.TheVariants.{Fixed, Jump, Short}
-use Rattle.ruler.specs.Choice.{Choice}
+use Rattle.relax.specs.declared.shape.Statement.{Statement}
+use Rattle.relax.specs.declared.shape.Statement.TheVariants.{Fixed, Jump, Short}
+use Rattle.relax.specs.Choice.{Choice}
 use Rattle.jump_reasons.specs.declared.long_jumps.LongJump.{LongJump}
 use Rattle.jump_reasons.specs.Reasons.{long_at, long_numbers}
 use Rattle.jump_reasons.specs.Private.Gathered.{AreDescribed, Describes, IsDescribed, items_at}

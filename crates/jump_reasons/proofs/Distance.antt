@@ -5,12 +5,12 @@ use Rattle.std.proofs.Math.Bool.{or_comm}
 use Rattle.std.proofs.lemmas.Bool.{cases_lt, lt-ltb, le-ltb}
 use Rattle.std.proofs.lemmas.Bool.Decides.{nat_tests}
 use Rattle.std.proofs.lemmas.List.Sums.{sum_by-cons}
-use Rattle.ruler.specs.declared.shape.Statement.{Statement}
-use Rattle.ruler.specs.declared.shape.Statement.TheVariants.{Jump}
-use Rattle.ruler.specs.Choice.{Choice, IsJump, Reaches, bytes_before, size_at, size_of}
-use Rattle.ruler.specs.Ruler.{IsLengthened}
-use Rattle.ruler.proofs.Moves.{moved}
-use Rattle.ruler.proofs.Places.{bytes-le, bytes-next, size-there}
+use Rattle.relax.specs.declared.shape.Statement.{Statement}
+use Rattle.relax.specs.declared.shape.Statement.TheVariants.{Jump}
+use Rattle.relax.specs.Choice.{Choice, IsJump, Reaches, bytes_before, size_at, size_of}
+use Rattle.relax.specs.Ruler.{IsLengthened}
+use Rattle.relax.proofs.Moves.{moved}
+use Rattle.relax.proofs.Places.{bytes-le, bytes-next, size-there}
 use Rattle.relax.specs.Growth.{after}
 use Rattle.jump_reasons.specs.Distances.{farthest, jump_distance, lies_between}
 use Rattle.jump_reasons.proofs.Distinct.{AreDistinct}

@@ -4,8 +4,8 @@ use Rattle.std.specs.List.{filter}
 use Rattle.std.proofs.lemmas.Bool.{cond_both, eqb-false, ne_eqb, or_from, or_parts}
 use Rattle.std.proofs.lemmas.List.Elements.{All-from_get_or}
 use Rattle.std.proofs.lemmas.List.Folds.{list_any_none}
-use Rattle.ruler.specs.declared.shape.Statement.{Statement}
-use Rattle.ruler.specs.Choice.{IsAnyJump}
+use Rattle.relax.specs.declared.shape.Statement.{Statement}
+use Rattle.relax.specs.Choice.{IsAnyJump}
 use Rattle.relax.specs.Growth.{IsForcing, after}
 
 -- the members of a list are relaxable jumps, and none occurs twice

@@ -5,9 +5,9 @@ use Rattle.std.proofs.lemmas.Bool.{cond_both, eqb-true, le-ltb, or_cases}
 use Rattle.std.specs.Ordering.{is_lt, nat_cmp}
 use Rattle.std.specs.declared.cmp.Ordering.TheVariants.{Equal, Greater}
 use Rattle.std.proofs.lemmas.Option.{slice_get_within, get_or_from_slice_get}
-use Rattle.ruler.specs.declared.shape.Statement.{Statement}
-use Rattle.ruler.specs.declared.shape.Statement.TheVariants.{Fixed, Jump}
-use Rattle.ruler.specs.Choice.{Choice, IsShape}
+use Rattle.relax.specs.declared.shape.Statement.{Statement}
+use Rattle.relax.specs.declared.shape.Statement.TheVariants.{Fixed, Jump}
+use Rattle.relax.specs.Choice.{Choice, IsShape}
 use Rattle.relax.specs.Growth.{IsForcing, after}
 use Rattle.jump_reasons.specs.declared.gathering.Want.{Want}
 use Rattle.jump_reasons.specs.declared.long_jumps.LongJump.{LongJump}

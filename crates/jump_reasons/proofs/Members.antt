@@ -5,9 +5,9 @@ use Rattle.std.specs.Prelude.{replicate, slice_set as set}
 use Rattle.std.proofs.lemmas.Bool.{cases_Bool, cases_eq}
 use Rattle.std.proofs.lemmas.List.{append-nil, get_or-replicate}
 use Rattle.std.proofs.lemmas.List.Elements.{filter_more}
-use Rattle.ruler.specs.declared.shape.Statement.{Statement}
-use Rattle.ruler.specs.Choice.{Choice, bytes_before, size_at}
-use Rattle.ruler.proofs.Places.{bytes-next, bytes-zero}
+use Rattle.relax.specs.declared.shape.Statement.{Statement}
+use Rattle.relax.specs.Choice.{Choice, bytes_before, size_at}
+use Rattle.relax.proofs.Places.{bytes-next, bytes-zero}
 use Rattle.jump_reasons.specs.Distances.{lies_between}
 use Rattle.jump_reasons.specs.Private.Gathered.{gathered}
 use Rattle.jump_reasons.specs.declared.gathering.Want.{Want}

@@ -3,10 +3,10 @@ use Rattle.std.proofs.Common.{◌≡◌, ◌<◌, ◌≤◌, ◌+◌, ℕ, List,
 use Rattle.std.proofs.lemmas.Bool.{cases_lt, lt-ltb, le-ltb}
 use Rattle.std.proofs.lemmas.Bool.Decides.{nat_tests}
 use Rattle.std.proofs.lemmas.List.Elements.{All-get_or}
-use Rattle.ruler.specs.declared.shape.Statement.{Statement}
-use Rattle.ruler.specs.declared.shape.Statement.TheVariants.{Fixed, Jump, Short}
-use Rattle.ruler.specs.Choice.{Choice, IsShape, IsStatement}
-use Rattle.ruler.proofs.Sizes.{bytes-apart}
+use Rattle.relax.specs.declared.shape.Statement.{Statement}
+use Rattle.relax.specs.declared.shape.Statement.TheVariants.{Fixed, Jump, Short}
+use Rattle.relax.specs.Choice.{Choice, IsShape, IsStatement}
+use Rattle.relax.proofs.Sizes.{bytes-apart}
 use Rattle.relax.specs.Growth.{after}
 use Rattle.jump_reasons.specs.Distances.{lies_between}
 use Rattle.jump_reasons.specs.Private.Gathered.{AreNear, AreWants, want_at, want_of, wanted_count}

@@ -2,8 +2,8 @@
 use Rattle.std.proofs.Common.{◌≡◌, ◌<◌, ◌≤◌, ℕ, zero, suc, true, false, List, [], ◌∷◌, ◌++◌, length, take, refl, sym, arith, ap, ◌∙◌, inl, inr}
 use Rattle.std.proofs.lemmas.Bool.{cases_lt, true_from_ne_false}
 use Rattle.std.specs.List.{filter}
-use Rattle.ruler.specs.declared.shape.Statement.{Statement}
-use Rattle.ruler.specs.Choice.{Choice, IsJump, IsSettled}
+use Rattle.relax.specs.declared.shape.Statement.{Statement}
+use Rattle.relax.specs.Choice.{Choice, IsJump, IsSettled}
 use Rattle.relax.specs.Growth.{IsForcing, Misses, after}
 use Rattle.relax.proofs.Forcing.{each-push, reaches-within}
 use Rattle.jump_reasons.specs.Distances.{lies_between}

@@ -1,7 +1,7 @@
 -- How far a jump is from its target.
 use Rattle.std.specs.Prelude.{ℕ, ◌+◌, ◌-◌, ◌&&◌, ◌||◌, Bool, List, if◌then◌else◌, nat_le, nat_lt}
-use Rattle.ruler.specs.declared.shape.Statement.{Statement}
-use Rattle.ruler.specs.Choice.{Choice, bytes_before}
+use Rattle.relax.specs.declared.shape.Statement.{Statement}
+use Rattle.relax.specs.Choice.{Choice, bytes_before}
 
 -- A jump from statement `from` to statement `to` goes over the bytes of statement k. Forward, it does not go over its target; back, it does.
 abbrev pub lies_between : ℕ → ℕ → ℕ → Bool

@@ -1,6 +1,6 @@
 -- Words for the laws about reasons.
 use Rattle.std.specs.Prelude.{◌≡◌, ℕ, List, true}
-use Rattle.ruler.specs.Choice.{Choice}
+use Rattle.relax.specs.Choice.{Choice}
 use Rattle.relax.specs.Growth.{after}
 
 -- a choice makes the members of a list long

@@ -2,9 +2,9 @@
 use Rattle.std.specs.Prelude.{◌≡◌, ◌+◌, ◌<◌, ◌≤◌, ℕ, All, List, Option, Some, None, if◌then◌else◌, length, map, take}
 use Rattle.std.specs.List.{enumerate_from, filter, filter_map, slice_index_or}
 use Rattle.std.specs.List.Sorted.{IsPermutation, IsNonDecreasingBy}
-use Rattle.ruler.specs.declared.shape.Statement.{Statement}
-use Rattle.ruler.specs.declared.shape.Statement.TheVariants.{Jump}
-use Rattle.ruler.specs.Choice.{Choice, IsJump, Reaches}
+use Rattle.relax.specs.declared.shape.Statement.{Statement}
+use Rattle.relax.specs.declared.shape.Statement.TheVariants.{Jump}
+use Rattle.relax.specs.Choice.{Choice, IsJump, Reaches}
 use Rattle.relax.specs.Growth.{after}
 use Rattle.jump_reasons.specs.declared.long_jumps.LongJump.{LongJump}
 use Rattle.jump_reasons.specs.Distances.{farthest, jump_distance, lies_between}

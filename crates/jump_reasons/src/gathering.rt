@@ -2,15 +2,15 @@
 
 ghost use Rattle.std.specs.Prelude.{◌≡◌, ◌+◌, ◌<◌, ◌≤◌, ◌++◌, ◌∷◌, [], ℕ, true, IfOk, List, OnOk, length, vec_len};
 ghost use Rattle.std.specs.List.{slice_index_or};
-ghost use Rattle.ruler.specs.declared.shape.Statement.{Statement};
-ghost use Rattle.ruler.specs.declared.shape.Statement.TheVariants.{Fixed};
-ghost use Rattle.ruler.specs.Choice.{IsShape, chosen};
+ghost use Rattle.relax.specs.declared.shape.Statement.{Statement};
+ghost use Rattle.relax.specs.declared.shape.Statement.TheVariants.{Fixed};
+ghost use Rattle.relax.specs.Choice.{IsShape, chosen};
 ghost use Rattle.relax.specs.Growth.{after};
 ghost use Rattle.jump_reasons.specs.Distances.{lies_between};
 ghost use Rattle.jump_reasons.specs.Private.Gathered.{AreBytesBefore, AreWants, AreNear, gathered, items_at, want_at, want_of};
 
 use crate::places::{distance, farthest};
-use ruler::Statement;
+use relax::Statement;
 use std::alloc::{AllocError, Global};
 
 /// The most statements between a jump and another that it goes over, if it reaches its target while all jumps are short: each of them takes a

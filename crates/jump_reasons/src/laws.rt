@@ -1,8 +1,8 @@
 //! Laws about reasons. A law is a function that does nothing and whose clause is a theorem.
 
 ghost use Rattle.std.specs.Prelude.{◌≡◌, ℕ, List, true, false, ◌++◌, ◌∷◌, []};
-ghost use Rattle.ruler.specs.declared.shape.Statement.{Statement};
-ghost use Rattle.ruler.specs.Choice.{Choice, IsJump, IsSettled};
+ghost use Rattle.relax.specs.declared.shape.Statement.{Statement};
+ghost use Rattle.relax.specs.Choice.{Choice, IsJump, IsSettled};
 ghost use Rattle.relax.specs.Growth.{IsForcing, after};
 ghost use Rattle.jump_reasons.specs.Laws.{IsLongIn};
 ghost use Rattle.jump_reasons.specs.Reasons.{IsReason};

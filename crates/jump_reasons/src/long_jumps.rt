@@ -1,7 +1,7 @@
 //! Finds the long jumps of a program, how far each is from being short, and why it is long.
 
 ghost use Rattle.std.specs.Prelude.{◌≡◌, ◌+◌, ◌<◌, IfOk, length, nat_le, string_bytes, vec_len};
-ghost use Rattle.ruler.specs.Choice.{IsShape, chosen};
+ghost use Rattle.relax.specs.Choice.{IsShape, chosen};
 ghost use Rattle.relax.specs.Growth.{IsGrowth};
 ghost use Rattle.jump_reasons.specs.Reasons.{AreLongJumps};
 ghost use Rattle.jump_reasons.specs.Private.Gathered.{AreDescribed, Describes};
@@ -9,8 +9,7 @@ ghost use Rattle.jump_reasons.specs.Texts.{long_jump_text};
 
 use crate::gathering::{gather, wants_of};
 use crate::places::{bytes_before, distance, farthest};
-use relax::{Growth, Shape};
-use ruler::Statement;
+use relax::{Growth, Shape, Statement};
 use std::alloc::{AllocError, Global};
 
 /// A jump that is long in the choice of jumps that takes the fewest bytes. Statements have the numbers that they have in the program.

@@ -1,12 +1,12 @@
 //! Where statements are, and how far jumps go.
 
 ghost use Rattle.std.specs.Prelude.{◌≡◌, ◌+◌, ◌<◌, ◌≤◌, IfOk, List, if◌then◌else◌, length, nat_lt, vec_len};
-ghost use Rattle.ruler.specs.declared.shape.Statement.{Statement};
-ghost use Rattle.ruler.specs.Choice.{Choice, IsShape, chosen};
+ghost use Rattle.relax.specs.declared.shape.Statement.{Statement};
+ghost use Rattle.relax.specs.Choice.{Choice, IsShape, chosen};
 ghost use Rattle.jump_reasons.specs.Distances.{farthest, jump_distance};
 ghost use Rattle.jump_reasons.specs.Private.Gathered.{AreBytesBefore};
 
-use ruler::Statement;
+use relax::Statement;
 use std::alloc::{AllocError, Global};
 
 /// Answers how many bytes come before each statement and before the end, given which jumps are long.

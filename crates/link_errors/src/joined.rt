@@ -118,12 +118,12 @@ fn number_of(lines: &[SourceLine], sought: Sought) -> u32 {
 }
 
 /// Answers where in a source the directive is that is looked for.
-pub(crate) fn find<'f>(
+pub(crate) fn find(
     alloc: Global,
-    sources: &Sources<'_, 'f>,
+    sources: &Sources<'_, '_>,
     source: usize,
     sought: Sought,
-) -> Result<Where<'f>, AllocError> {
+) -> Result<Where, AllocError> {
     let line = number_of(&read(alloc, sources.text(source))?, sought);
     sources.named(alloc, source, line, sought.word())
 }

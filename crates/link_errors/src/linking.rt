@@ -41,13 +41,13 @@ pub(crate) fn shown<'a>(name: &'a [u8]) -> &'a str {
 }
 
 /// Answers the report of an error of modules, with a note if there is one.
-pub(crate) fn error_at<'a>(
+pub(crate) fn error_at(
     alloc: Global,
-    at: Option<Where<'a>>,
+    at: Option<Where>,
     text: String,
     refusal: Refusal,
     note: Option<Note>,
-) -> Result<Report<'a>, AllocError> {
+) -> Result<Report, AllocError> {
     let mut notes = Vec::new(alloc);
     if let Some(note) = note {
         notes.push(note)?;
@@ -57,6 +57,7 @@ pub(crate) fn error_at<'a>(
         at,
         text,
         name: name_of(alloc, refusal)?,
+        about: Vec::new(alloc),
         notes,
     })
 }
@@ -187,13 +188,13 @@ fn shared_externals<'a>(
 }
 
 /// Answers the report of a label that is public in two modules.
-fn twice<'a>(
+fn twice(
     alloc: Global,
-    named: Named<'_, '_, 'a>,
+    named: Named<'_, '_, '_>,
     name: &[u8],
     first: Public,
     second: Public,
-) -> Result<Report<'a>, AllocError> {
+) -> Result<Report, AllocError> {
     let shown = shown(name);
     let line = named.label(second.module, name);
     let at = named.sources.named(alloc, second.module, line, name)?;
@@ -213,13 +214,13 @@ fn twice<'a>(
 
 impl<'a> Publics<'a> {
     /// Adds the public labels of a module, and reports those that are there already.
-    fn add<'f>(
+    fn add(
         &mut self,
         alloc: Global,
-        named: Named<'_, '_, 'f>,
+        named: Named<'_, '_, '_>,
         number: usize,
         module: &'a Module,
-        reports: &mut Vec<Report<'f>>,
+        reports: &mut Vec<Report>,
     ) -> Result<(), AllocError> {
         for label in &module.publics {
             let Some(found) = module.labels.get(usize::from(*label)) else {
@@ -241,14 +242,14 @@ impl<'a> Publics<'a> {
     }
 
     /// Reports the externals of a module that are public nowhere; one of a shared file only for the first source.
-    fn put_unresolved<'f>(
+    fn put_unresolved(
         &self,
         alloc: Global,
-        named: Named<'_, '_, 'f>,
+        named: Named<'_, '_, '_>,
         shared: &SharedExternals<'_>,
         number: usize,
         module: &Module,
-        reports: &mut Vec<Report<'f>>,
+        reports: &mut Vec<Report>,
     ) -> Result<(), AllocError> {
         for (external, name) in module.externals.iter().enumerate() {
             if self.names.get(name.as_slice()).is_none() {
@@ -262,14 +263,14 @@ impl<'a> Publics<'a> {
 }
 
 /// Answers the report of an external that is public nowhere, which this number of sources have.
-fn unresolved<'a>(
+fn unresolved(
     alloc: Global,
-    named: Named<'_, '_, 'a>,
+    named: Named<'_, '_, '_>,
     module: usize,
     external: usize,
     name: &[u8],
     count: usize,
-) -> Result<Report<'a>, AllocError> {
+) -> Result<Report, AllocError> {
     let shown = shown(name);
     let line = named.external(module, name);
     let mut report = error_at(
@@ -290,11 +291,11 @@ fn unresolved<'a>(
 }
 
 /// Reports all names that are public twice, and all externals that are public nowhere.
-fn put_names<'a>(
+fn put_names(
     alloc: Global,
-    sources: &Sources<'_, 'a>,
+    sources: &Sources<'_, '_>,
     modules: &[Module],
-    reports: &mut Vec<Report<'a>>,
+    reports: &mut Vec<Report>,
 ) -> Result<(), AllocError> {
     let mut names = Vec::with_capacity(alloc, modules.len())?;
     for number in 0..modules.len() {
@@ -318,11 +319,11 @@ fn put_names<'a>(
 }
 
 /// Answers the report of an ORG in a source that is not the first.
-fn begins_late<'a>(
+fn begins_late(
     alloc: Global,
-    sources: &Sources<'_, 'a>,
+    sources: &Sources<'_, '_>,
     module: usize,
-) -> Result<Report<'a>, AllocError> {
+) -> Result<Report, AllocError> {
     let path = sources.path(module);
     error_at(
         alloc,
@@ -334,11 +335,11 @@ fn begins_late<'a>(
 }
 
 /// Answers the report of an END whose entry is not where the program begins.
-fn entry_late<'a>(
+fn entry_late(
     alloc: Global,
-    sources: &Sources<'_, 'a>,
+    sources: &Sources<'_, '_>,
     module: usize,
-) -> Result<Report<'a>, AllocError> {
+) -> Result<Report, AllocError> {
     error_at(
         alloc,
         Some(find(alloc, sources, module, Sought::End)?),
@@ -359,13 +360,13 @@ fn entry_late<'a>(
 /// # Errors
 ///
 /// [`AllocError`] if memory ran out.
-pub fn put_link_errors<'a>(
+pub fn put_link_errors(
     alloc: Global,
-    sources: &Sources<'_, 'a>,
+    sources: &Sources<'_, '_>,
     modules: &[Module],
     lines: &[Lines],
     fault: &LinkFault,
-    reports: &mut Vec<Report<'a>>,
+    reports: &mut Vec<Report>,
 ) -> Result<(), AllocError>
     requires { All IsModule (map module_of modules.now) }
 {
@@ -396,7 +397,7 @@ pub fn put_link_errors<'a>(
 }
 
 /// Answers the report of an error of modules that says this, and has no place.
-fn plain<'a>(alloc: Global, fault: &LinkFault, text: String) -> Result<Report<'a>, AllocError>
+fn plain(alloc: Global, fault: &LinkFault, text: String) -> Result<Report, AllocError>
     ensures { IfOk result (λ r. bears_name (link_name fault.now) r ≡ true) }
 {
     Ok(Report {
@@ -404,6 +405,7 @@ fn plain<'a>(alloc: Global, fault: &LinkFault, text: String) -> Result<Report<'a
         at: None,
         text,
         name: name_of(alloc, Refusal::of_link(fault))?,
+        about: Vec::new(alloc),
         notes: Vec::new(alloc),
     })
 }
@@ -413,10 +415,10 @@ fn plain<'a>(alloc: Global, fault: &LinkFault, text: String) -> Result<Report<'a
 /// # Errors
 ///
 /// [`AllocError`] if memory ran out.
-pub fn put_plain<'a>(
+pub fn put_plain(
     alloc: Global,
     fault: &LinkFault,
-    reports: &mut Vec<Report<'a>>,
+    reports: &mut Vec<Report>,
 ) -> Result<(), AllocError>
     ensures { OnOk result (list_any (bears_name (link_name fault.now)) reports.new.items ≡ true) }
 {

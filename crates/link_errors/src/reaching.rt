@@ -162,7 +162,7 @@ impl<'p, 'f> Placed<'p, 'f> {
         site: Site<'_>,
         far: Far,
         target: &[u8],
-    ) -> Result<Report<'f>, AllocError> {
+    ) -> Result<Report, AllocError> {
         let at = self.sources.mark(alloc, number, site, target)?;
         let name = site.own_text(alloc, shown(target))?;
         let help = Note::Help(far.help(alloc, &name)?);
@@ -181,7 +181,7 @@ impl<'p, 'f> Placed<'p, 'f> {
         number: usize,
         module: &'p Module,
         at: usize,
-        reports: &mut Vec<Report<'f>>,
+        reports: &mut Vec<Report>,
     ) -> Result<(), AllocError> {
         let Some(Statement::Short { branch, target }) = module.statements.get(at) else {
             return Ok(());
@@ -203,7 +203,7 @@ impl<'p, 'f> Placed<'p, 'f> {
         alloc: Global,
         number: usize,
         module: &'p Module,
-        reports: &mut Vec<Report<'f>>,
+        reports: &mut Vec<Report>,
     ) -> Result<(), AllocError> {
         for at in 0..module.statements.len() {
             self.put_statement(alloc, number, module, at, reports)?;
@@ -265,12 +265,12 @@ impl Far {
 }
 
 /// Reports all jumps that are always short and do not reach their targets, in the choice of the others that takes the fewest bytes.
-pub(crate) fn put_range<'f>(
+pub(crate) fn put_range(
     alloc: Global,
-    sources: &Sources<'_, 'f>,
+    sources: &Sources<'_, '_>,
     modules: &[Module],
     lines: &[Lines],
-    reports: &mut Vec<Report<'f>>,
+    reports: &mut Vec<Report>,
 ) -> Result<(), AllocError>
     requires { All IsModule (map module_of modules.now) }
 {
@@ -296,13 +296,13 @@ fn put_size_of(
 }
 
 /// Reports that a program takes too many bytes.
-pub(crate) fn put_size<'f>(
+pub(crate) fn put_size(
     alloc: Global,
-    sources: &Sources<'_, 'f>,
+    sources: &Sources<'_, '_>,
     modules: &[Module],
     lines: &[Lines],
     total: u32,
-    reports: &mut Vec<Report<'f>>,
+    reports: &mut Vec<Report>,
 ) -> Result<(), AllocError>
     requires { All IsModule (map module_of modules.now) }
 {

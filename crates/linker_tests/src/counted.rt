@@ -1,7 +1,7 @@
 //! A ruler that counts by itself how often it is asked.
 
 ghost use Rattle.std.specs.Prelude.{◌≡◌};
-ghost use Rattle.ruler.specs.Choice.{chosen};
+ghost use Rattle.relax.specs.Choice.{chosen};
 
 use relax::{Ruler, Sums};
 

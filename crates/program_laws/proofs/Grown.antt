@@ -2,7 +2,7 @@
 use Rattle.std.proofs.Common.{◌≡◌, ◌+◌, ◌⊎◌, ◌↔◌, ◌&&◌, ◌∙◌, if◌then◌else◌, inl, inr, refl, sym, subst, ap, ℕ, zero, suc, Bool, true, false, true≢false, List, [], ◌∷◌, Some, None, option_map, map, slice_get, Contains, arith}
 use Rattle.std.proofs.lemmas.Bool.{and_parts}
 use Rattle.std.specs.List.{cons_option, enumerate_from, filter_map}
-use Rattle.ruler.specs.Choice.{Choice, IsJump, IsSettled}
+use Rattle.relax.specs.Choice.{Choice, IsJump, IsSettled}
 use Rattle.relax.specs.Growth.{after}
 use Rattle.zmo_module.specs.Modules as object
 use Rattle.zmo_module.specs.Modules.{Module, ModuleStatement}

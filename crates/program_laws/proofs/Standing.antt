@@ -8,10 +8,10 @@ use Rattle.z80_instr.specs.declared.Instr.{Instr}
 use Rattle.z80_instr.specs.Codes.{Codes}
 use Rattle.z80_cpu.specs.State.{Machine}
 use Rattle.z80_machine.specs.Turn.{bytes_at_pc, StandsAtPc}
-use Rattle.ruler.specs.Choice.{Choice, size_of, IsValid, bytes_before, place}
+use Rattle.relax.specs.Choice.{Choice, size_of, IsValid, bytes_before, place}
 use Rattle.asm_statements.specs.Program.Statement.{Statement}
 use Rattle.zlink.specs.Reads.{Reads, shape, sized_as}
-use Rattle.ruler.proofs.Places.{bytes-next, bytes-le, size-there}
+use Rattle.relax.proofs.Places.{bytes-next, bytes-le, size-there}
 use Rattle.program_laws.specs.Turns.{HoldsFile, IsAtStatement}
 
 -- a byte of a part of a list

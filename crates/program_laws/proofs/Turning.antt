@@ -16,7 +16,7 @@ use Rattle.z80_cpu.specs.Operands.{condition_holds, short_condition_holds}
 use Rattle.z80_cpu.specs.Jumps.{jumped_if}
 use Rattle.z80_cpu.specs.Effect.{instruction_effect}
 use Rattle.z80_machine.specs.Turn.{StandsAtPc, carried_out, IsTurnOf, IsStep}
-use Rattle.ruler.specs.Choice.{Choice, IsValid, size_of, bytes_before, place}
+use Rattle.relax.specs.Choice.{Choice, IsValid, size_of, bytes_before, place}
 use Rattle.z80_instr.specs.declared.Branch.{Branch}
 use Rattle.z80_instr.specs.declared.Branch.TheVariants.{Relative, CountDown}
 use Rattle.asm_statements.specs.Program.Statement.{Statement, Code, Data, Space, Jump, Short}

@@ -2,7 +2,7 @@
 use Rattle.std.proofs.Common.{◌≡◌, ℕ, zero, suc, ◌+◌, false, List, [], ◌∷◌, ◌++◌, Some, None, refl, arith, inl, negsuc}
 use Rattle.std.specs.Prelude.{replicate}
 use Rattle.std.specs.List.{slice_get, slice_range}
-use Rattle.ruler.specs.Choice.{Choice, IsSettled, ShortsReach, IsValid, bytes_before, place}
+use Rattle.relax.specs.Choice.{Choice, IsSettled, ShortsReach, IsValid, bytes_before, place}
 use Rattle.asm_statements.specs.Program.Statement.{Statement, Jump}
 use Rattle.asm_statements.specs.Program.Pieces.{IsPiece}
 use Rattle.zlink.specs.Reads.{Reads, shape}

@@ -10,7 +10,7 @@ use Rattle.z80_cpu.specs.State.{Machine, on_cpu, with_main, with_pc, one_less}
 use Rattle.z80_cpu.specs.Operands.{short_condition_holds}
 use Rattle.z80_cpu.specs.Effect.{instruction_effect}
 use Rattle.z80_machine.specs.Turn.{IsStep}
-use Rattle.ruler.specs.Choice.{Choice, place}
+use Rattle.relax.specs.Choice.{Choice, place}
 use Rattle.z80_instr.specs.declared.Branch.{Branch}
 use Rattle.z80_instr.specs.declared.Branch.TheVariants.{Relative, CountDown}
 use Rattle.asm_statements.specs.Program.Statement.{Statement, Code, Data, Space, Jump, Short}

@@ -5,8 +5,8 @@ use Rattle.std.specs.List.{enumerate_from, flat_map, sum_by}
 use Rattle.std.specs.Option.{option_map}
 use Rattle.std.proofs.lemmas.List.{length-map, map-append}
 use Rattle.std.proofs.lemmas.List.Sums.{sum_by-append, sum_by-cons}
-use Rattle.ruler.specs.declared.shape.Statement.{Statement as Sized}
-use Rattle.ruler.specs.declared.shape.Statement.TheVariants as sized
+use Rattle.relax.specs.declared.shape.Statement.{Statement as Sized}
+use Rattle.relax.specs.declared.shape.Statement.TheVariants as sized
 use Rattle.zmo_module.specs.Modules as object
 use Rattle.zmo_module.specs.Modules.{Module, ModuleStatement}
 use Rattle.zlink.specs.File.Objects.{placed_shape, sized_by}

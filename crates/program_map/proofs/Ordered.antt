@@ -4,9 +4,9 @@ use Rattle.std.specs.Prelude.{◌==◌, ◌&&◌, ◌||◌, count_by, slice_get}
 use Rattle.std.specs.List.{enumerate_from, list_any, sum_by}
 use Rattle.std.proofs.lemmas.Bool.Decides.{nat_tests}
 use Rattle.std.proofs.lemmas.List.{length-take-le, take_all, take_more}
-use Rattle.ruler.specs.declared.shape.Statement.{Statement}
-use Rattle.ruler.specs.declared.shape.Statement.TheVariants as sized
-use Rattle.ruler.specs.Choice.{Choice, IsJump}
+use Rattle.relax.specs.declared.shape.Statement.{Statement}
+use Rattle.relax.specs.declared.shape.Statement.TheVariants as sized
+use Rattle.relax.specs.Choice.{Choice, IsJump}
 use Rattle.relax.specs.Growth.{IsForcing, Misses, after}
 use Rattle.program_map.specs.Sums.{is_sized_jump}
 use Rattle.program_map.proofs.Counting.{count_cons}

@@ -1,8 +1,8 @@
 -- The addresses of statements ascend.
 use Rattle.std.proofs.Common.{◌≡◌, ◌∙◌, ◌+◌, ◌≤◌, ◌<◌, ◌⊎◌, inl, inr, ℕ, zero, suc, Bool, List, [], ◌∷◌, ◌++◌, Option, Some, None, length, map, refl, ap, sym, subst, arith, get_or, slice_index, add-one}
 use Rattle.common.specs.declared.limits.TheConstants.{FIRST_PLACE}
-use Rattle.ruler.specs.declared.shape.Statement.{Statement}
-use Rattle.ruler.specs.Choice.{Choice, bytes_before, place, size_at, total}
+use Rattle.relax.specs.declared.shape.Statement.{Statement}
+use Rattle.relax.specs.Choice.{Choice, bytes_before, place, size_at, total}
 use Rattle.zlink.specs.File.Places.{ArePlaces}
 use Rattle.std.specs.List.{enumerate_from}
 use Rattle.std.proofs.lemmas.List.{get_or-append-add, get_or_append_left, length-append, length-map}

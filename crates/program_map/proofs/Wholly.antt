@@ -2,7 +2,7 @@
 use Rattle.std.proofs.Common.{◌≡◌, ◌+◌, ℕ, List, Option, arith}
 use Rattle.std.specs.Prelude.{All}
 use Rattle.common.specs.declared.limits.TheConstants.{FIRST_PLACE}
-use Rattle.ruler.specs.Choice.{Choice, total}
+use Rattle.relax.specs.Choice.{Choice, total}
 use Rattle.zmo_module.specs.Modules.{Module}
 use Rattle.zlink.specs.File.Objects.{placed_shape}
 use Rattle.zlink.specs.File.Places.{ArePlaces}

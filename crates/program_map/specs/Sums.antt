@@ -1,8 +1,8 @@
 -- How the figures of a map add up.
 use Rattle.std.specs.Prelude.{◌≡◌, ℕ, ◌+◌, All, Bool, true, false}
 use Rattle.common.specs.declared.limits.TheConstants.{FIRST_PLACE}
-use Rattle.ruler.specs.declared.shape.Statement.{Statement}
-use Rattle.ruler.specs.declared.shape.Statement.TheVariants as sized
+use Rattle.relax.specs.declared.shape.Statement.{Statement}
+use Rattle.relax.specs.declared.shape.Statement.TheVariants as sized
 use Rattle.program_map.specs.declared.figures.Figures.{Figures}
 use Rattle.program_map.specs.Mapped.{MappedModule, MappedProgram}
 

@@ -3,7 +3,7 @@
 ghost use Rattle.std.specs.Prelude.{◌≡◌, ◌+◌, ℕ, All, List, Option, count_by, length};
 ghost use Rattle.common.specs.declared.limits.TheConstants.{FIRST_PLACE};
 ghost use Rattle.relax.specs.Growth.{IsForcing, after};
-ghost use Rattle.ruler.specs.Choice.{Choice, total};
+ghost use Rattle.relax.specs.Choice.{Choice, total};
 ghost use Rattle.zmo_module.specs.Modules.{Module};
 ghost use Rattle.zlink.specs.File.Objects.{placed_shape};
 ghost use Rattle.zlink.specs.File.Places.{ArePlaces};

@@ -1,15 +1,65 @@
 //! Says why jumps of a program are long.
 
-ghost use Rattle.std.specs.Prelude.{All, map};
+ghost use Rattle.std.specs.Prelude.{◌≡◌, ◌∷◌, ◌++◌, [], All, IfOk, codes, map, string_bytes};
+ghost use Rattle.std.specs.List.{AllZip};
+ghost use Rattle.report_texts.specs.declared.report.Severity.TheVariants as severity;
 ghost use Rattle.zmo_module.specs.Modules.{module_of};
 ghost use Rattle.zmo_module.specs.Rules.{IsModule};
+ghost use Rattle.program_warnings.specs.Longs.{AreLongNotes, IsLongNote, IsReasonNote, reason_text};
 
 use jump_reasons::{JoinFault, LongJump, LongJumps, find_long_jumps};
 use message_texts::{Note, shown};
-use report_texts::{Report, Severity};
+use report_texts::{Report, Severity, Where};
 use std::alloc::{AllocError, Global};
 use written_lines::{Expansions, Site, Sources, mentioned};
 use zlink::Built;
+
+/// Says by how many jumps a jump is long, and in which lines they are.
+fn reason_text(alloc: Global, count: usize, lines: &str) -> Result<String, AllocError>
+    ensures { IfOk result (λ text. string_bytes text ≡ reason_text count lines.now) }
+{
+    if count == 0 {
+        String::from_str(alloc, "it would be long even if all other jumps were short")
+    } else if count == 1 {
+        format!(in alloc; "the jump between that is long, at {lines}, is the reason")
+    } else {
+        format!(in alloc; "the jumps between that are long, at {lines}, are the reason")
+    }
+}
+
+/// The note with the reason, and then those about calls.
+fn notes_of(alloc: Global, reason: Note, calls: Vec<Note>) -> Result<Vec<Note>, AllocError>
+    ensures { IfOk result (λ notes. notes.items ≡ reason ∷ calls.items) }
+{
+    let mut notes = Vec::new(alloc);
+    notes.push(reason)?;
+    let mut calls = calls;
+    notes.append(&mut calls)?;
+    Ok(notes)
+}
+
+/// The report of a jump that is long, given how far away its target is.
+fn note_report(
+    alloc: Global,
+    at: Option<Where>,
+    reach: String,
+    notes: Vec<Note>,
+) -> Result<Report, AllocError>
+    ensures severity { IfOk result (λ report. report.severity ≡ severity.Note) }
+    ensures unnamed { IfOk result (λ report. string_bytes report.name ≡ []) }
+    ensures text { IfOk result (λ report. string_bytes report.text ≡ codes "this jump takes 3 bytes: " ++ string_bytes reach) }
+    ensures notes { IfOk result (λ report. report.notes ≡ notes) }
+{
+    let text = format!(in alloc; "this jump takes 3 bytes: {reach}")?;
+    Ok(Report {
+        severity: Severity::Note,
+        at,
+        text,
+        name: String::new(alloc),
+        about: Vec::new(alloc),
+        notes,
+    })
+}
 
 /// The long jumps of a program, and what is needed to name them.
 #[derive(Drop)]
@@ -59,21 +109,21 @@ impl<'b, 's, 'f> Named<'b, 's, 'f> {
     }
 
     /// Answers the lines of the jumps that are the reason for a long jump, or that there are none.
-    fn reason(&self, alloc: Global, jump: &LongJump) -> Result<Note, AllocError> {
+    fn reason(&self, alloc: Global, jump: &LongJump) -> Result<Note, AllocError>
+        ensures { IfOk result (λ note. IsReasonNote jump.now note) }
+    {
         let mut lines = String::new(alloc);
         for statement in &jump.reason {
             self.put_line(alloc, &mut lines, *statement)?;
         }
-        let text = match jump.reason.len() {
-            0 => String::from_str(alloc, "it would be long even if all other jumps were short")?,
-            1 => format!(in alloc; "the jump between that is long, at {lines}, is the reason")?,
-            _ => format!(in alloc; "the jumps between that are long, at {lines}, are the reason")?,
-        };
+        let text = reason_text(alloc, jump.reason.len(), &lines)?;
         Ok(Note::Note(text))
     }
 
     /// Answers the report of a long jump.
-    fn report(&self, alloc: Global, jump: &LongJump) -> Result<Report<'f>, AllocError> {
+    fn report(&self, alloc: Global, jump: &LongJump) -> Result<Report, AllocError>
+        ensures { IfOk result (λ report. IsLongNote jump.now report) }
+    {
         let (source, line) = match self.built.statements.get(jump.statement as usize) {
             Some(origin) => (origin.source, origin.line),
             None => (0, 0),
@@ -83,16 +133,24 @@ impl<'b, 's, 'f> Named<'b, 's, 'f> {
         let at = Some(self.sources.mark(alloc, source, site, target)?);
         let name = site.own_text(alloc, &shown(alloc, target)?)?;
         let reach = jump.text(alloc, &name)?;
-        let mut notes = Vec::new(alloc);
-        notes.push(self.reason(alloc, jump)?)?;
-        self.sources.put_calls(alloc, source, site, &mut notes)?;
-        Ok(Report {
-            severity: Severity::Note,
-            at,
-            text: format!(in alloc; "this jump takes 3 bytes: {reach}")?,
-            name: String::new(alloc),
-            notes,
-        })
+        let mut calls = Vec::new(alloc);
+        self.sources.put_calls(alloc, source, site, &mut calls)?;
+        let reason = self.reason(alloc, jump)?;
+        let notes = notes_of(alloc, reason, calls)?;
+        let report = note_report(alloc, at, reach, notes)?;
+        Ok(report)
+    }
+
+    /// Answers the reports of long jumps.
+    fn reports(&self, alloc: Global, jumps: &[LongJump]) -> Result<Vec<Report>, AllocError>
+        ensures { IfOk result (λ reports. AllZip IsLongNote jumps.now reports.items) }
+    {
+        let mut reports = Vec::new(alloc);
+        for jump in jumps {
+            let report = self.report(alloc, jump)?;
+            reports.push(report)?;
+        }
+        Ok(reports)
     }
 }
 
@@ -101,12 +159,13 @@ impl<'b, 's, 'f> Named<'b, 's, 'f> {
 /// # Errors
 ///
 /// [`AllocError`] if memory ran out.
-pub fn long_jumps_of<'f>(
+pub fn long_jumps_of(
     alloc: Global,
-    sources: &Sources<'_, 'f>,
+    sources: &Sources<'_, '_>,
     built: &Built,
-) -> Result<Vec<Report<'f>>, AllocError>
+) -> Result<Vec<Report>, AllocError>
     requires { All IsModule (map module_of built.now.modules.items) }
+    ensures { IfOk result (λ reports. AreLongNotes (map module_of built.now.modules.items) reports.items) }
 {
     let LongJumps { jumps, sites } = match find_long_jumps(alloc, &built.modules) {
         Ok(found) => found,
@@ -119,9 +178,6 @@ pub fn long_jumps_of<'f>(
         sites,
         expansions: Expansions::of(alloc, sources)?,
     };
-    let mut reports = Vec::new(alloc);
-    for jump in &jumps {
-        reports.push(named.report(alloc, jump)?)?;
-    }
+    let reports = named.reports(alloc, &jumps)?;
     Ok(reports)
 }

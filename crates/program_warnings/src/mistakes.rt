@@ -37,12 +37,12 @@ fn help_of(
 }
 
 /// Answers the report of a warning about a source.
-fn report_of<'f>(
+fn report_of(
     alloc: Global,
-    sources: &Sources<'_, 'f>,
+    sources: &Sources<'_, '_>,
     source: usize,
     warning: &SourceWarning,
-) -> Result<Report<'f>, AllocError> {
+) -> Result<Report, AllocError> {
     let mut notes = Vec::new(alloc);
     notes.push(Note::Help(help_of(alloc, sources, source, warning)?))?;
     Ok(Report {
@@ -50,17 +50,18 @@ fn report_of<'f>(
         at: Some(sources.named(alloc, source, warning.number, &warning.name)?),
         text: warning.message(alloc)?,
         name: String::new(alloc),
+        about: Vec::new(alloc),
         notes,
     })
 }
 
 /// Appends the report of a warning about a source, if its line is one of the source itself.
-fn put_warning<'f>(
+fn put_warning(
     alloc: Global,
-    sources: &Sources<'_, 'f>,
+    sources: &Sources<'_, '_>,
     source: usize,
     warning: &SourceWarning,
-    reports: &mut Vec<Report<'f>>,
+    reports: &mut Vec<Report>,
 ) -> Result<(), AllocError>
     ensures { OnOk result (length reports.new.items ≡ length reports.old.items + one_if (is_behind sources.now.before (warning_of warning.now))) }
 {
@@ -71,12 +72,12 @@ fn put_warning<'f>(
 }
 
 /// Appends the reports of warnings about a source.
-fn put_each<'f>(
+fn put_each(
     alloc: Global,
-    sources: &Sources<'_, 'f>,
+    sources: &Sources<'_, '_>,
     source: usize,
     found: &[SourceWarning],
-    reports: &mut Vec<Report<'f>>,
+    reports: &mut Vec<Report>,
 ) -> Result<(), AllocError>
     ensures { OnOk result (length reports.new.items ≡ length reports.old.items + own_count sources.now.before (map warning_of found.now)) }
 {
@@ -87,12 +88,12 @@ fn put_each<'f>(
 }
 
 /// Appends the reports of all warnings about a source, given its text after that of the front.
-fn put_source<'f>(
+fn put_source(
     alloc: Global,
-    sources: &Sources<'_, 'f>,
+    sources: &Sources<'_, '_>,
     source: usize,
     text: &[u8],
-    reports: &mut Vec<Report<'f>>,
+    reports: &mut Vec<Report>,
 ) -> Result<(), AllocError>
     ensures { OnOk result ((count : ℕ) × HasWarnings sources.now.before text.now count × (length reports.new.items ≡ length reports.old.items + count)) }
 {
@@ -108,11 +109,11 @@ fn put_source<'f>(
 /// # Errors
 ///
 /// [`AllocError`] if memory ran out.
-pub fn put_mistakes<'f>(
+pub fn put_mistakes(
     alloc: Global,
-    sources: &Sources<'_, 'f>,
+    sources: &Sources<'_, '_>,
     behind: &[Source<'_>],
-    reports: &mut Vec<Report<'f>>,
+    reports: &mut Vec<Report>,
 ) -> Result<(), AllocError>
     ensures { OnOk result ((counts : List ℕ) × AllZip (λ s n. HasWarnings sources.now.before s.text.now n) behind.now counts
         × (length reports.new.items ≡ length reports.old.items + sum_by (λ n. n) counts)) }

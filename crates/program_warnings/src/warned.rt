@@ -53,7 +53,7 @@ impl<'w, 's, 'f> Warned<'w, 's, 'f> {
         alloc: Global,
         number: usize,
         warning: &JumpWarning,
-    ) -> Result<Report<'f>, AllocError> {
+    ) -> Result<Report, AllocError> {
         let shown = str::from_utf8(&warning.text).unwrap_or("?");
         let statement = match self.sites.get(number) {
             Some(site) => site.statement,
@@ -71,18 +71,19 @@ impl<'w, 's, 'f> Warned<'w, 's, 'f> {
             at: Some(self.sources.mark(alloc, warning.source, site, b"")?),
             text: site.own_text(alloc, shown)?,
             name: String::new(alloc),
+            about: Vec::new(alloc),
             notes,
         })
     }
 }
 
 /// Answers the reports of warnings about the jumps of a program.
-fn reports_of<'a>(
+fn reports_of(
     alloc: Global,
-    sources: &Sources<'_, 'a>,
+    sources: &Sources<'_, '_>,
     built: &Built,
     warnings: &[JumpWarning],
-) -> Result<Vec<Report<'a>>, AllocError>
+) -> Result<Vec<Report>, AllocError>
     requires { All IsModule (map module_of built.now.modules.items) }
     ensures { IfOk result (λ reports. length reports.items ≡ length warnings.now) }
 {
@@ -106,11 +107,11 @@ fn reports_of<'a>(
 /// # Errors
 ///
 /// [`AllocError`] if memory ran out.
-pub fn warnings_of<'a>(
+pub fn warnings_of(
     alloc: Global,
-    sources: &Sources<'_, 'a>,
+    sources: &Sources<'_, '_>,
     built: &Built,
-) -> Result<Vec<Report<'a>>, AllocError>
+) -> Result<Vec<Report>, AllocError>
     requires { All IsModule (map module_of built.now.modules.items) }
     ensures { IfOk result (λ reports. length reports.items ≡ warning_count built.now) }
 {

@@ -3,10 +3,10 @@ use Rattle.std.proofs.lemmas.Bool.{cases_lt}
 use Rattle.std.proofs.lemmas.List.{get_or_push, get_or_append_left, length_push}
 use Rattle.std.proofs.lemmas.List.Sums.{count_by_more_yes, count_by_more_no}
 use Rattle.std.proofs.lemmas.Option.{slice_get-get_or, slice_get_within, get_or_from_slice_get}
-use Rattle.ruler.specs.declared.shape.Statement.{Statement}
-use Rattle.ruler.specs.declared.shape.Statement.TheVariants.{Fixed, Jump, Short}
+use Rattle.relax.specs.declared.shape.Statement.{Statement}
+use Rattle.relax.specs.declared.shape.Statement.TheVariants.{Fixed, Jump, Short}
 use Rattle.relax.specs.declared.relaxable.RelaxableJump.{RelaxableJump}
-use Rattle.ruler.specs.Choice.{IsJump, IsAnyJump}
+use Rattle.relax.specs.Choice.{IsJump, IsAnyJump}
 use Rattle.relax.specs.Probes.{is_jump}
 use Rattle.relax.specs.Private.Worklist.{statement_of, target_of}
 

@@ -2,8 +2,8 @@
 use Rattle.std.proofs.Common.{◌≡◌, ℕ, zero, suc, ◌+◌, ◌<◌, ◌≤◌, List, length, refl, arith, inl, inr, sym, ap, subst, ◌∙◌, take, get_or}
 use Rattle.std.proofs.lemmas.Bool.{cases_lt}
 use Rattle.std.proofs.lemmas.List.{take_all, take_more_same}
-use Rattle.ruler.specs.Choice.{Choice, IsLowestShortMiss, ShortsReach}
-use Rattle.ruler.specs.declared.shape.Statement.{Statement}
+use Rattle.relax.specs.Choice.{Choice, IsLowestShortMiss, ShortsReach}
+use Rattle.relax.specs.declared.shape.Statement.{Statement}
 use Rattle.relax.specs.declared.growth.Verdict.{Verdict}
 use Rattle.relax.specs.declared.growth.Verdict.TheVariants.{Best, Range, TooLarge}
 use Rattle.relax.specs.Growth.{Holds, IsLeastFirst, Misses, SettledBelow, after}

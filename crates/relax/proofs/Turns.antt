@@ -5,11 +5,11 @@ use Rattle.std.proofs.Math.Bool.{or-true, or-false}
 use Rattle.std.proofs.Math.Path.{fun_ext}
 use Rattle.std.proofs.lemmas.List.{length-set, length_push}
 use Rattle.std.proofs.lemmas.List.Sums.{sum_by-set, sum_by-cons}
-use Rattle.ruler.specs.declared.shape.Statement.{Statement}
-use Rattle.ruler.specs.declared.shape.Statement.TheVariants.{Jump}
+use Rattle.relax.specs.declared.shape.Statement.{Statement}
+use Rattle.relax.specs.declared.shape.Statement.TheVariants.{Jump}
 use Rattle.relax.specs.declared.relaxable.RelaxableJump.{RelaxableJump}
-use Rattle.ruler.specs.Choice.{Choice, chosen, IsAnyJump, Fits, IsSettled}
-use Rattle.ruler.specs.Ruler.{IsLengthened}
+use Rattle.relax.specs.Choice.{Choice, chosen, IsAnyJump, Fits, IsSettled}
+use Rattle.relax.specs.Ruler.{IsLengthened}
 use Rattle.relax.specs.Growth.{after, Misses, IsForcing, TakesLowest, SettledBelow, IsLeastFirst}
 use Rattle.relax.specs.Probes.{IsProbeCount}
 use Rattle.relax.specs.Private.Worklist.{statement_of, target_of, AreRelaxable, PassesOver, IsLowestPending, pending_count, Requeued}

@@ -4,9 +4,9 @@
 use Rattle.std.proofs.Common.{◌≡◌, ◌≢◌, ℕ, zero, suc, Bool, true, false, List, [], ◌∷◌, Some, refl, sym, ap, subst, ◌∙◌, arith}
 use Rattle.std.specs.List.{slice_get}
 use Rattle.common.specs.declared.limits.TheConstants.{LONGEST_PROGRAM}
-use Rattle.ruler.specs.declared.shape.Statement.{Statement}
-use Rattle.ruler.specs.declared.shape.Statement.TheVariants.{Fixed, Jump, Short}
-use Rattle.ruler.specs.Choice.{Choice, bytes_before, chosen, total, IsJump, IsNear, IsShort, IsSettled, Reaches}
+use Rattle.relax.specs.declared.shape.Statement.{Statement}
+use Rattle.relax.specs.declared.shape.Statement.TheVariants.{Fixed, Jump, Short}
+use Rattle.relax.specs.Choice.{Choice, bytes_before, chosen, total, IsJump, IsNear, IsShort, IsSettled, Reaches}
 use Rattle.relax.specs.declared.growth.Growth.{Growth}
 use Rattle.relax.specs.declared.growth.Verdict.TheVariants.{Range, TooLarge}
 use Rattle.relax.specs.Growth.{Holds, IsGrowth}

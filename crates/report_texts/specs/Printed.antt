@@ -6,6 +6,8 @@ use Rattle.report_texts.specs.declared.printing.Form.{Form}
 use Rattle.report_texts.specs.declared.printing.Form.TheVariants as form
 use Rattle.message_texts.specs.declared.parts.Note.{Note}
 use Rattle.message_texts.specs.declared.parts.Note.TheVariants as note
+use Rattle.shared_lines.specs.Front.{own_place, path_at}
+use Rattle.report_texts.specs.declared.report.Files.{Files}
 use Rattle.report_texts.specs.declared.report.Report.{Report}
 use Rattle.report_texts.specs.declared.report.Severity.{Severity}
 use Rattle.report_texts.specs.declared.report.Severity.TheVariants as severity
@@ -30,14 +32,24 @@ severity_color severity.Error = codes "1;31"
 severity_color severity.Warning = codes "1;35"
 severity_color severity.Note = codes "1;36"
 
+-- Where the line of a place is written: its file, and its number there.
+abbrev pub printed_place : Files → Where → List ℕ × ℕ
+printed_place files at = own_place files.front (path_at files.sources.now at.source) at.written
+
+abbrev pub path_of_place : Files → Where → List ℕ
+path_of_place files at = (printed_place files at).0
+
+abbrev pub line_of_place : Files → Where → ℕ
+line_of_place files at = (printed_place files at).1
+
 -- `PATH:LINE:COLUMN: `
-abbrev pub location_text : Where → List ℕ
-location_text at = at.path.now ++ codes ":" ++ decimal at.line ++ codes ":" ++ decimal at.column ++ codes ": "
+abbrev pub location_text : Files → Where → List ℕ
+location_text files at = path_of_place files at ++ codes ":" ++ decimal (line_of_place files at) ++ codes ":" ++ decimal at.column ++ codes ": "
 
 -- a report about the program as a whole has no place
-abbrev pub report_place : Form → Option Where → List ℕ
-report_place form None = []
-report_place form (Some at) = colored form (codes "1") (location_text at)
+abbrev pub report_place : Files → Form → Option Where → List ℕ
+report_place files form None = []
+report_place files form (Some at) = colored form (codes "1") (location_text files at)
 
 -- ` [NAME]`
 abbrev pub bracketed_name : List ℕ → List ℕ
@@ -45,8 +57,8 @@ bracketed_name [] = []
 bracketed_name name = codes " [" ++ name ++ codes "]"
 
 -- `PATH:LINE:COLUMN: error: TEXT [NAME]`
-abbrev pub heading_text : Form → Report → List ℕ
-heading_text form r = report_place form r.at ++ colored form (severity_color r.severity) (severity_word r.severity ++ codes ": ") ++ string_bytes r.text ++ bracketed_name (string_bytes r.name) ++ codes "\n"
+abbrev pub heading_text : Files → Form → Report → List ℕ
+heading_text files form r = report_place files form r.at ++ colored form (severity_color r.severity) (severity_word r.severity ++ codes ": ") ++ string_bytes r.text ++ bracketed_name (string_bytes r.name) ++ codes "\n"
 
 -- a byte of a line is shown if it is printable ASCII or a tab, otherwise as ?
 abbrev pub shown_byte : ℕ → ℕ
@@ -56,44 +68,39 @@ shown_byte byte = if (byte == 0x09) || (nat_le 0x20 byte && nat_le byte 0x7E) th
 abbrev pub below : ℕ → ℕ
 below byte = if byte == 0x09 then 0x09 else 0x20
 
--- the line after its number
-abbrev pub line_after_number : Where → List ℕ
-line_after_number at = codes "  " ++ decimal at.line ++ codes " | " ++ map shown_byte at.text.items ++ codes "\n"
+-- the line of a place after its number
+abbrev pub line_after_number : ℕ → Where → List ℕ
+line_after_number line at = codes "  " ++ decimal line ++ codes " | " ++ map shown_byte at.text.items ++ codes "\n"
 
 -- carets under the part that a report is about, at least one
-abbrev pub caret_line : Form → Where → List ℕ
-caret_line form at =
-    codes "  " ++ replicate (length (decimal at.line)) 0x20 ++ codes " | " ++ map below (take at.place.at at.text.items)
+abbrev pub caret_line : Form → ℕ → Where → List ℕ
+caret_line form line at =
+    codes "  " ++ replicate (length (decimal line)) 0x20 ++ codes " | " ++ map below (take at.place.at at.text.items)
     ++ colored form (codes "1;32") (replicate (max 1 at.place.len) 0x5E) ++ codes "\n"
 
-abbrev pub report_line : Form → Where → List ℕ
-report_line form at = line_after_number at ++ caret_line form at
+abbrev pub report_line : Files → Form → Where → List ℕ
+report_line files form at = line_after_number (line_of_place files at) at ++ caret_line form (line_of_place files at) at
 
 -- an empty line is not shown
-abbrev pub shown_line : Form → Where → List ℕ → List ℕ
-shown_line form at [] = []
-shown_line form at text = report_line form at
+abbrev pub shown_line : Files → Form → Where → List ℕ → List ℕ
+shown_line files form at [] = []
+shown_line files form at text = report_line files form at
 
-abbrev pub report_lines : Form → Option Where → List ℕ
-report_lines form None = []
-report_lines form (Some at) = shown_line form at at.text.items
+abbrev pub report_lines : Files → Form → Option Where → List ℕ
+report_lines files form None = []
+report_lines files form (Some at) = shown_line files form at at.text.items
 
 abbrev pub note_text : Note → List ℕ
 note_text (note.Help text) = codes "  help: " ++ string_bytes text ++ codes "\n"
 note_text (note.Note text) = codes "  note: " ++ string_bytes text ++ codes "\n"
 
-abbrev pub report_text : Form → Report → List ℕ
-report_text form r = heading_text form r ++ report_lines form r.at ++ flat_map note_text r.notes.items
+abbrev pub report_text : Files → Form → Report → List ℕ
+report_text files form r = heading_text files form r ++ report_lines files form r.at ++ flat_map note_text r.notes.items
 
 -- how many more there are
 abbrev pub left_out_text : ℕ → List ℕ
 left_out_text count = if nat_lt 100 count then decimal (count - 100) ++ codes " more\n" else []
 
 -- the first hundred reports, and how many more there are
-abbrev pub reports_text : Form → List Report → List ℕ
-reports_text form reports = flat_map (report_text form) (take 100 reports) ++ left_out_text (length reports)
-
--- The text of reports. As JSON, this does not say what it is.
-abbrev pub IsPrinted : Form → List Report → List ℕ → Type 0
-IsPrinted form.Json reports text = Unit {0}
-IsPrinted form reports text = text ≡ reports_text form reports
+abbrev pub reports_text : Files → Form → List Report → List ℕ
+reports_text files form reports = flat_map (report_text files form) (take 100 reports) ++ left_out_text (length reports)

@@ -4,11 +4,13 @@ ghost use Rattle.std.specs.Prelude.{◌≡◌, ◌++◌, ℕ, IfOk, OnOk, List, 
 ghost use Rattle.std.specs.Option.{option_copied};
 ghost use Rattle.std.specs.List.{flat_map};
 ghost use Rattle.report_texts.specs.declared.printing.TheConstants.{MOST_REPORTS};
-ghost use Rattle.report_texts.specs.Printed.{IsPrinted, below, colored, caret_line, line_after_number, reports_text, heading_text, report_line, report_lines, left_out_text, bracketed_name, note_text, report_place, report_text, severity_color, severity_word, shown_byte, shown_line, location_text};
+ghost use Rattle.report_texts.specs.Json.{IsPrinted, json_report_line};
+ghost use Rattle.report_texts.specs.Printed.{below, colored, caret_line, line_after_number, reports_text, heading_text, report_line, report_lines, left_out_text, bracketed_name, note_text, line_of_place, path_of_place, report_place, report_text, severity_color, severity_word, shown_byte, shown_line, location_text};
 
 use crate::json::put_json;
-use crate::report::{Report, Severity, Where};
+use crate::report::{Files, Report, Severity, Where};
 use message_texts::Note;
+use shared_lines::{Located, locate, path_at};
 use std::alloc::{AllocError, Global};
 
 /// The most reports that are printed, except as JSON.
@@ -67,14 +69,23 @@ fn put_colored(out: &mut Vec<u8>, form: Form, color: &str, text: &[u8]) -> Resul
     out.extend_from_slice(b"\x1b[0m")
 }
 
-/// `PATH:LINE:COLUMN: `. Columns are counted in bytes from 1.
-fn where_text(alloc: Global, at: &Where<'_>) -> Result<Vec<u8>, AllocError>
-    ensures { IfOk result (λ text. text.items ≡ location_text at.now) }
+/// The file of a place, and the number that its line has there.
+pub(crate) fn located<'f>(files: Files<'_, 'f>, at: &Where) -> Located<'f>
+    ensures path { result.path.now ≡ path_of_place files.entry at.now }
+    ensures line { result.line ≡ line_of_place files.entry at.now }
 {
-    let (line, column) = (at.line, at.column);
+    locate(files.front, path_at(files.sources, at.source), at.written)
+}
+
+/// `PATH:LINE:COLUMN: `. Columns are counted in bytes from 1.
+fn where_text(alloc: Global, files: Files<'_, '_>, at: &Where) -> Result<Vec<u8>, AllocError>
+    ensures { IfOk result (λ text. text.items ≡ location_text files.entry at.now) }
+{
+    let Located { path, line } = located(files, at);
+    let column = at.column;
     let line = format!(in alloc; "{line}")?;
     let column = format!(in alloc; "{column}")?;
-    let mut text = at.path.as_bytes().to_vec(alloc)?;
+    let mut text = path.as_bytes().to_vec(alloc)?;
     text.push(b':')?;
     text.extend_from_slice(line.as_bytes())?;
     text.push(b':')?;
@@ -86,15 +97,16 @@ fn where_text(alloc: Global, at: &Where<'_>) -> Result<Vec<u8>, AllocError>
 /// Appends the place of a report, if it has one.
 fn put_place(
     alloc: Global,
+    files: Files<'_, '_>,
     out: &mut Vec<u8>,
     form: Form,
-    at: Option<&Where<'_>>,
+    at: Option<&Where>,
 ) -> Result<(), AllocError>
-    ensures { OnOk result (out.new.items ≡ out.old.items ++ report_place form (option_copied at.entry)) }
+    ensures { OnOk result (out.new.items ≡ out.old.items ++ report_place files.entry form (option_copied at.entry)) }
 {
     match at {
         Some(at) => {
-            let text = where_text(alloc, at)?;
+            let text = where_text(alloc, files, at)?;
             put_colored(out, form, BOLD, &text)
         }
         None => Ok(()),
@@ -116,13 +128,14 @@ fn put_name(out: &mut Vec<u8>, name: &str) -> Result<(), AllocError>
 /// Appends what the report says.
 fn put_heading(
     alloc: Global,
+    files: Files<'_, '_>,
     out: &mut Vec<u8>,
     form: Form,
-    report: &Report<'_>,
+    report: &Report,
 ) -> Result<(), AllocError>
-    ensures { OnOk result (out.new.items ≡ out.old.items ++ heading_text form report.now) }
+    ensures { OnOk result (out.new.items ≡ out.old.items ++ heading_text files.entry form report.now) }
 {
-    put_place(alloc, out, form, report.at.as_ref())?;
+    put_place(alloc, files, out, form, report.at.as_ref())?;
     let word = format!(in alloc; "{}: ", severity_word(report.severity))?;
     put_colored(out, form, severity_color(report.severity), word.as_bytes())?;
     out.extend_from_slice(report.text.as_bytes())?;
@@ -184,11 +197,11 @@ fn front(text: &[u8], count: usize) -> &[u8]
     text.get(..count).unwrap_or(text)
 }
 
-/// Appends the line after its number.
-fn put_numbered(alloc: Global, out: &mut Vec<u8>, at: &Where<'_>) -> Result<(), AllocError>
-    ensures { OnOk result (out.new.items ≡ out.old.items ++ line_after_number at.now) }
+/// Appends the line of a place after this number.
+fn put_numbered(alloc: Global, out: &mut Vec<u8>, line: u32, at: &Where) -> Result<(), AllocError>
+    ensures { OnOk result (out.new.items ≡ out.old.items ++ line_after_number line at.now) }
 {
-    let number = format!(in alloc; "  {} | ", at.line)?;
+    let number = format!(in alloc; "  {} | ", line)?;
     out.extend_from_slice(number.as_bytes())?;
     put_shown(out, &at.text)?;
     out.extend_from_slice(b"\n")
@@ -201,16 +214,17 @@ fn digits(alloc: Global, number: u32) -> Result<usize, AllocError>
     Ok(format!(in alloc; "{number}")?.len())
 }
 
-/// Appends carets under the part that a report is about.
+/// Appends carets under the part that a report is about, below the line with this number.
 fn put_marked(
     alloc: Global,
     out: &mut Vec<u8>,
     form: Form,
-    at: &Where<'_>,
+    line: u32,
+    at: &Where,
 ) -> Result<(), AllocError>
-    ensures { OnOk result (out.new.items ≡ out.old.items ++ caret_line form at.now) }
+    ensures { OnOk result (out.new.items ≡ out.old.items ++ caret_line form line at.now) }
 {
-    let blanks = times(alloc, b' ', digits(alloc, at.line)?)?;
+    let blanks = times(alloc, b' ', digits(alloc, line)?)?;
     let carets = times(alloc, b'^', at.place.len.max(1))?;
     out.extend_from_slice(b"  ")?;
     out.extend_from_slice(&blanks)?;
@@ -221,24 +235,32 @@ fn put_marked(
 }
 
 /// Appends the line with its number, and below it carets under the part that the report is about.
-fn put_line(alloc: Global, out: &mut Vec<u8>, form: Form, at: &Where<'_>) -> Result<(), AllocError>
-    ensures { OnOk result (out.new.items ≡ out.old.items ++ report_line form at.now) }
+fn put_line(
+    alloc: Global,
+    files: Files<'_, '_>,
+    out: &mut Vec<u8>,
+    form: Form,
+    at: &Where,
+) -> Result<(), AllocError>
+    ensures { OnOk result (out.new.items ≡ out.old.items ++ report_line files.entry form at.now) }
 {
-    put_numbered(alloc, out, at)?;
-    put_marked(alloc, out, form, at)
+    let line = located(files, at).line;
+    put_numbered(alloc, out, line, at)?;
+    put_marked(alloc, out, form, line, at)
 }
 
 /// Appends the line of a report, if it has one that is not empty.
 fn put_lines(
     alloc: Global,
+    files: Files<'_, '_>,
     out: &mut Vec<u8>,
     form: Form,
-    at: Option<&Where<'_>>,
+    at: Option<&Where>,
 ) -> Result<(), AllocError>
-    ensures { OnOk result (out.new.items ≡ out.old.items ++ report_lines form (option_copied at.entry)) }
+    ensures { OnOk result (out.new.items ≡ out.old.items ++ report_lines files.entry form (option_copied at.entry)) }
 {
     match at {
-        Some(at) if !at.text.is_empty() => put_line(alloc, out, form, at),
+        Some(at) if !at.text.is_empty() => put_line(alloc, files, out, form, at),
         _ => Ok(()),
     }
 }
@@ -269,28 +291,30 @@ fn put_notes(out: &mut Vec<u8>, notes: &[Note]) -> Result<(), AllocError>
 /// Appends a report.
 fn put_report(
     alloc: Global,
+    files: Files<'_, '_>,
     out: &mut Vec<u8>,
     form: Form,
-    report: &Report<'_>,
+    report: &Report,
 ) -> Result<(), AllocError>
-    ensures { OnOk result (out.new.items ≡ out.old.items ++ report_text form report.now) }
+    ensures { OnOk result (out.new.items ≡ out.old.items ++ report_text files.entry form report.now) }
 {
-    put_heading(alloc, out, form, report)?;
-    put_lines(alloc, out, form, report.at.as_ref())?;
+    put_heading(alloc, files, out, form, report)?;
+    put_lines(alloc, files, out, form, report.at.as_ref())?;
     put_notes(out, &report.notes)
 }
 
 /// Appends reports.
 fn put_reports(
     alloc: Global,
+    files: Files<'_, '_>,
     out: &mut Vec<u8>,
     form: Form,
-    reports: &[Report<'_>],
+    reports: &[Report],
 ) -> Result<(), AllocError>
-    ensures { OnOk result (out.new.items ≡ out.old.items ++ flat_map (report_text form) reports.now) }
+    ensures { OnOk result (out.new.items ≡ out.old.items ++ flat_map (report_text files.entry form) reports.now) }
 {
     for report in reports {
-        put_report(alloc, out, form, report)?;
+        put_report(alloc, files, out, form, report)?;
     }
     Ok(())
 }
@@ -307,42 +331,56 @@ fn put_more(alloc: Global, out: &mut Vec<u8>, count: usize) -> Result<(), AllocE
 }
 
 /// The first reports, at most this many.
-fn first_of<'r, 'a>(reports: &'r [Report<'a>], count: usize) -> &'r [Report<'a>]
+fn first_of(reports: &[Report], count: usize) -> &[Report]
     ensures { result.now ≡ take count reports.now }
 {
     reports.get(..count).unwrap_or(reports)
 }
 
 /// Answers the text of reports, not as JSON.
-fn printed(alloc: Global, form: Form, reports: &[Report<'_>]) -> Result<Vec<u8>, AllocError>
-    ensures { IfOk result (λ text. text.items ≡ reports_text form reports.now) }
+fn printed(
+    alloc: Global,
+    files: Files<'_, '_>,
+    form: Form,
+    reports: &[Report],
+) -> Result<Vec<u8>, AllocError>
+    ensures { IfOk result (λ text. text.items ≡ reports_text files.entry form reports.now) }
 {
     let mut out = Vec::new(alloc);
-    put_reports(alloc, &mut out, form, first_of(reports, MOST_REPORTS))?;
+    put_reports(
+        alloc,
+        files,
+        &mut out,
+        form,
+        first_of(reports, MOST_REPORTS),
+    )?;
     put_more(alloc, &mut out, reports.len())?;
     Ok(out)
 }
 
 /// Answers each report as one line of JSON.
-fn json(alloc: Global, reports: &[Report<'_>]) -> Result<Vec<u8>, AllocError> {
+fn json(alloc: Global, files: Files<'_, '_>, reports: &[Report]) -> Result<Vec<u8>, AllocError>
+    ensures { IfOk result (λ text. text.items ≡ flat_map (json_report_line files.entry) reports.now) }
+{
     let mut out = Vec::new(alloc);
     for report in reports {
-        put_json(alloc, &mut out, report)?;
+        put_json(alloc, files, &mut out, report)?;
     }
     Ok(out)
 }
 
-/// Answers the text of reports: the first hundred, and how many there are more; as JSON, all of them.
+/// Answers the text of reports about these files: the first hundred, and how many there are more; as JSON, all of them.
 pub fn print_reports(
     alloc: Global,
+    files: Files<'_, '_>,
     form: Form,
-    reports: &[Report<'_>],
+    reports: &[Report],
 ) -> Result<Vec<u8>, AllocError>
-    ensures { IfOk result (λ text. IsPrinted form reports.now text.items) }
+    ensures { IfOk result (λ text. IsPrinted files.entry form reports.now text.items) }
 {
     match form {
-        Form::Json => json(alloc, reports),
-        Form::Plain => printed(alloc, Form::Plain, reports),
-        Form::Colored => printed(alloc, Form::Colored, reports),
+        Form::Json => json(alloc, files, reports),
+        Form::Plain => printed(alloc, files, Form::Plain, reports),
+        Form::Colored => printed(alloc, files, Form::Colored, reports),
     }
 }

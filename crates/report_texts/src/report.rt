@@ -1,6 +1,7 @@
 //! Reports of errors and warnings.
 
 use message_texts::{Note, Place};
+use shared_lines::{Front, SourceFile};
 
 /// How grave a report is.
 #[derive(Clone, Copy, Debug, PartialEq, Eq)]
@@ -13,16 +14,22 @@ pub enum Severity {
     Note,
 }
 
-/// A part of a line of a file.
+/// What comes before each source, and the sources: the files that reports name.
+#[derive(Clone, Copy, Debug)]
+pub struct Files<'s, 'f> {
+    pub front: Front<'f>,
+    pub sources: &'s [SourceFile<'f>],
+}
+
+/// A part of a line of a source after the front. Lines are counted from the first line of the front.
 #[derive(Debug, Drop)]
-pub struct Where<'a> {
-    pub path: &'a str,
+pub struct Where {
     /// The number of the source, from 0.
     pub source: usize,
-    /// The line by which building reports this: counted from the first line of the shared files, and in a macro that of the outermost call.
+    /// The line by which building reports this. In a macro it is that of the outermost call.
     pub reported: u32,
-    /// The number of the line in its own file, from 1. In a macro it is a line of the body.
-    pub line: u32,
+    /// The line in which it is written, and which is printed as its own file counts it. In a macro it is a line of the body.
+    pub written: u32,
     /// The byte of that line where the part begins, from 1.
     pub column: usize,
     /// The line as it is assembled, with the arguments of a call in place of its parameters.
@@ -33,14 +40,17 @@ pub struct Where<'a> {
 
 /// What is wrong, and where.
 #[derive(Debug, Drop)]
-pub struct Report<'a> {
+pub struct Report {
     pub severity: Severity,
     /// None if it is about the program as a whole.
-    pub at: Option<Where<'a>>,
+    pub at: Option<Where>,
     /// What is wrong. Empty in an error that is only counted: the texts of those after the hundredth are not made, unless all are printed.
     pub text: String,
     /// The name of the error, as a refusal prints it. Empty for a warning.
     pub name: String,
+    /// What an error of a source is about: a name, in upper case; or if it is about none, its line with the arguments of the calls. Empty in other
+    /// reports.
+    pub about: Vec<u8>,
     /// What to write instead, and what else belongs to the error.
     pub notes: Vec<Note>,
 }

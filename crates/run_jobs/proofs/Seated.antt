@@ -9,7 +9,7 @@ use Rattle.z80dev_commands.specs.declared.job.Play.{Play}
 use Rattle.z80dev_finish.specs.Files.{Folder}
 use Rattle.run_jobs.specs.Playing.{EndsPlay, IsSession, Plays, flushed_end, most_steps, seated}
 use Rattle.streams.specs.Stream.{Stream}
-use Rattle.streams.specs.Writing.{Hands_on}
+use Rattle.streams.specs.Writing.{Flushed}
 use Rattle.streams.specs.declared.writing.WriteFailed.{WriteFailed}
 use Rattle.job_steps.specs.World.{World}
 use Rattle.run_jobs.specs.declared.running.Inputs.{Inputs}
@@ -22,7 +22,7 @@ pub plays : (p : Play) (inputs : Inputs) (recorded : Option Recorded) (claimed :
     → words ≡ map (λ word. word.now) p.words.items → steps ≡ unwrap_or p.steps most_steps
     → before ≡ seated p old → after ≡ seat_of whose pending keys is_leaving new.input.left printed.bytes
     → IsSession inputs.program.items words inputs.image.items steps recorded before end turns pc image arrivals after
-    → Hands_on printed new.output flushed → EndsPlay p inputs (flushed_end end flushed) turns pc image arrivals claimed new.folder old.errors new.errors status
+    → Flushed printed new.output flushed → EndsPlay p inputs (flushed_end end flushed) turns pc image arrivals claimed new.folder old.errors new.errors status
     → Plays p inputs recorded claimed old new status
 plays p inputs recorded claimed old new status words steps before after whose pending keys is_leaving printed flushed end turns pc image arrivals same_words same_steps same_before same_after played handed ends =
     let of_words = subst (λ w. IsSession inputs.program.items w inputs.image.items steps recorded before end turns pc image arrivals after) same_words played in

@@ -11,7 +11,7 @@ use Rattle.screen_codes.specs.declared.codes.Codes.TheVariants.{Plain, Adm3a, Vt
 use Rattle.screen_codes.specs.declared.codes.Pending.{Pending}
 use Rattle.screen_codes.specs.declared.codes.Pending.TheVariants.{Nothing}
 use Rattle.streams.specs.Stream.{Stream}
-use Rattle.streams.specs.Writing.{Hands_on}
+use Rattle.streams.specs.Writing.{Flushed}
 use Rattle.streams.specs.declared.writing.WriteFailed.{WriteFailed}
 use Rattle.z80dev_commands.specs.declared.job.Play.{Play}
 use Rattle.z80dev_finish.specs.End.{Tells, end_status}
@@ -156,7 +156,7 @@ Plays p inputs recorded claimed old new status =
     × (printed : Stream) × (flushed : Result Unit WriteFailed)
     × IsSession inputs.program.items (map (λ word. word.now) p.words.items) inputs.image.items (unwrap_or p.steps most_steps) recorded (seated p old)
     end turns pc image arrivals (seat_of whose pending keys is_leaving new.input.left printed.bytes)
-    × Hands_on printed new.output flushed × EndsPlay p inputs (flushed_end end flushed) turns pc image arrivals claimed new.folder old.errors new.errors status
+    × Flushed printed new.output flushed × EndsPlay p inputs (flushed_end end flushed) turns pc image arrivals claimed new.folder old.errors new.errors status
 
 -- `play`: the files are read, and the program is played. Standard input is read only while it is.
 abbrev pub PlayEndsWith : Play → World → World → ℕ → Type 0

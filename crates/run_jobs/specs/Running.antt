@@ -6,7 +6,7 @@ use Rattle.cpm_fcb.specs.declared.stop.Stop.TheVariants as stop
 use Rattle.cpm_run.specs.declared.ending.Why.{Why}
 use Rattle.cpm_run.specs.declared.ending.Why.TheVariants as why
 use Rattle.streams.specs.Stream.{Stream}
-use Rattle.streams.specs.Writing.{Hands_on}
+use Rattle.streams.specs.Writing.{Flushed}
 use Rattle.streams.specs.declared.writing.WriteFailed.{WriteFailed}
 use Rattle.z80dev_disk.specs.Disks.{IsMounted}
 use Rattle.z80dev_disk.specs.Refusals.{refusal_text}
@@ -17,7 +17,7 @@ use Rattle.z80dev_finish.specs.End.{Tells, end_status}
 use Rattle.z80dev_finish.specs.Files.{Folder}
 use Rattle.z80dev_finish.specs.declared.end.End.{End}
 use Rattle.z80dev_finish.specs.declared.end.End.TheVariants as end
-use Rattle.claimed_images.specs.Claims.{HasClaimed, IsNotClaimed, KeepsFile, warnings}
+use Rattle.job_steps.specs.Claims.{HasClaimed, IsNotClaimed, KeepsFile, warnings}
 use Rattle.job_steps.specs.Reporting.{TellsLine, PutsLines}
 use Rattle.run_jobs.specs.Input.{IsInputUnread, ReadsInput}
 use Rattle.job_steps.specs.Reading.{IsNotRead, IsNotReadIfGiven, IsRead, IsReadIfGiven, Reader, bytes_in}
@@ -99,7 +99,7 @@ WritesIfTold telling (Some told) old new result = WritesTold telling told old ne
 WritesIfTold telling None old new (Ok _) = ⊥
 WritesIfTold telling None old new (Err e) = (e ≡ end.NoMemory) × (new ≡ old)
 
--- The image that a run leaves is kept; then what the run tells is written. If the image cannot be kept, nothing is told in a file.
+-- The image that a run leaves is kept; then the files of its trace and its profile are written. If the image cannot be kept, none is written.
 abbrev pub KeepsAll : Run → List ℕ → List ℕ → Option Told → Folder → Folder → Result (Result Unit End) End → Type 0
 KeepsAll run bytes image told old new (Ok written) = (mid : Folder) × (done : Unit {0}) × IsKept run.disk bytes image old mid (Ok done) × WritesIfTold run.telling told mid new written
 KeepsAll run bytes image told old new (Err e) = IsKept run.disk bytes image old new (Err e)
@@ -108,7 +108,7 @@ KeepsAll run bytes image told old new (Err e) = IsKept run.disk bytes image old 
 -- a file could not be written. Whether the image is kept before what was printed is flushed, this does not say.
 abbrev pub EndsRun : Run → Inputs → Why → ℕ → List ℕ → Option Told → Stream → Stream → Folder → Folder → Stream → Stream → ℕ → Type 0
 EndsRun run inputs end pc image told printed output old new before after status =
-    (flushed : Result Unit WriteFailed) × (kept : Result (Result Unit End) End) × Hands_on printed output flushed × KeepsAll run inputs.image.items image told old new kept
+    (flushed : Result Unit WriteFailed) × (kept : Result (Result Unit End) End) × Flushed printed output flushed × KeepsAll run inputs.image.items image told old new kept
     × ReportsRun (lines_in inputs) (told_lines told) kept (why_at end flushed) pc before after status
 
 -- how many steps a run may take if the command names no number

@@ -26,6 +26,7 @@ pub fn run_job<F: Files, I: Input, W: Sink + Drop, E: Sink>(
     requires calm { I.interruptions host.input ≡ 0 }
     ensures ends { RunEnds job.now (world_of (F.folder host.files) (reader_of (I.remaining host.input) (I.failed host.input) (I.reads host.input) (I.interruptions host.input)) (W.stream host.output) (E.stream host.errors)) (world_of (F.folder result.host.files) (reader_of (I.remaining result.host.input) (I.failed result.host.input) (I.reads result.host.input) (I.interruptions result.host.input)) (W.stream result.host.output) (E.stream result.host.errors)) result.status }
     ensures reads { I.reads result.host.input ≤ MOST_READS }
+    ensures terminal { result.host.is_terminal ≡ host.is_terminal }
 {
     if let Err(end) = refuse_telling(alloc, job) {
         let status = report(&end, &mut host.errors);

@@ -11,8 +11,7 @@ ghost use Rattle.job_steps.specs.World.{world_of};
 
 use crate::paths::names_program;
 use crate::running::{Inputs, claim_disk, keep_disk, ready_of, report_written};
-use claimed_images::Image;
-use job_steps::{Ended, Host, read, refuse_value};
+use job_steps::{Ended, Host, Image, read, refuse_value};
 use screen_codes::Codes;
 use std::alloc::{AllocError, Global};
 use streams::{Input, Sink, WriteFailed, flush};
@@ -276,6 +275,7 @@ fn play<F: Files, I: Input, W: Sink + Drop, E: Sink>(
     requires unread { I.reads host.input ≡ 0 }
     ensures ends { PlayEndsWith job.now (world_of (F.folder host.files) (reader_of (I.remaining host.input) (I.failed host.input) (I.reads host.input) (I.interruptions host.input)) (W.stream host.output) (E.stream host.errors)) (world_of (F.folder result.host.files) (reader_of (I.remaining result.host.input) (I.failed result.host.input) (I.reads result.host.input) (I.interruptions result.host.input)) (W.stream result.host.output) (E.stream result.host.errors)) result.status }
     ensures reads { I.reads result.host.input ≤ 4294967296 }
+    ensures terminal { result.host.is_terminal ≡ host.is_terminal }
 {
     let (inputs, recorded) = match session_of(alloc, job, &mut host.files) {
         Ok(read) => read,
@@ -330,6 +330,7 @@ pub fn play_job<F: Files, I: Input, W: Sink + Drop, E: Sink>(
     requires unread { I.reads host.input ≡ 0 }
     ensures ends { Judging (bad_in_play job.now) (PlayEndsWith job.now) (world_of (F.folder host.files) (reader_of (I.remaining host.input) (I.failed host.input) (I.reads host.input) (I.interruptions host.input)) (W.stream host.output) (E.stream host.errors)) (world_of (F.folder result.host.files) (reader_of (I.remaining result.host.input) (I.failed result.host.input) (I.reads result.host.input) (I.interruptions result.host.input)) (W.stream result.host.output) (E.stream result.host.errors)) result.status }
     ensures reads { I.reads result.host.input ≤ 4294967296 }
+    ensures terminal { result.host.is_terminal ≡ host.is_terminal }
 {
     if let Some(status) = refuse_value(bad_in_play(alloc, job), &mut host.errors) {
         return Ended { status, host };

@@ -11,8 +11,7 @@ ghost use Rattle.run_jobs.specs.Running.{EndsRun, IsKept, KeepsAll, ReadsInputs,
 
 use crate::input::read_input;
 use crate::telling::{Told, labels_of, write_told};
-use claimed_images::{Image, claim, keep};
-use job_steps::{put_lines, read, read_if_given};
+use job_steps::{Image, claim, keep, put_lines, read, read_if_given};
 use std::alloc::Global;
 use streams::{Input, Sink, WriteFailed, flush, put};
 use z80dev_commands::{Run, Telling};

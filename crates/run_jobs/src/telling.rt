@@ -206,7 +206,7 @@ fn profile_of(
     }
 }
 
-/// Whether a run has gone wrong, so that its last steps are told: it was stopped, or its program is lost.
+/// Whether a run has gone wrong, so that its last steps are printed: it was stopped, or its program is lost.
 fn is_wrong(why: Why, cpu: &Cpu, kept: &Record, labels: &Labels) -> bool
     ensures { result ≡ is_wrong labels.now why cpu.now kept.now }
 {

@@ -1,4 +1,4 @@
--- Lines of a source some of which have errors: as which lines they count when the others are judged, so that an error makes no further ones.
+-- Lines of a source, some with errors: which lines they count as when the others are judged, so that an error makes no further ones.
 use Rattle.std.specs.Prelude.{ℕ, ◌+◌, ◌-◌, ◌==◌, ◌||◌, ◌&&◌, not, Bool, List, [], ◌∷◌, ◌++◌, Option, Some, None, Result, Ok, Err, if◌then◌else◌, codes, drop, is_ok, length, map, take}
 use Rattle.std.specs.List.{flat_map, prefix_len}
 use Rattle.std.specs.Option.{option_map, option_to_list}

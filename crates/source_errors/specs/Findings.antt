@@ -11,7 +11,7 @@ pub record Finding : Type 0 where
   pub why : Why
   pub name : Option (List ℕ)
 
--- a name that is defined twice is said for the message alone: the line tells which names it defines
+-- a name that is defined twice is only for the message: the line itself tells which names it defines
 abbrev pub name_told : Why → Option (List ℕ) → Option (List ℕ)
 name_told Why.Duplicate name = None
 name_told why name = name

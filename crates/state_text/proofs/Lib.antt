@@ -1,2 +1,4 @@
+mod Nearest
 mod Numbered
 mod Ranges
+mod PrintedNumbers

@@ -5,7 +5,7 @@ use Rattle.std.proofs.lemmas.Bool.{cases_eq}
 use Rattle.std.proofs.lemmas.Bool.Decides.{nat_tests}
 use Rattle.std.proofs.Math.Seq.{take-append_seam}
 use Rattle.std.proofs.lemmas.List.{get_or-replicate, length-replicate}
-use Rattle.state_text.specs.Labelled.{AreNumbers, AreNumbersIfAny, nearest_number, last_at, last_below}
+use Rattle.state_text.specs.Private.Numbers.{AreNumbers, AreNumbersIfAny, nearest_number, last_at, last_below}
 
 -- at the start no address has a number
 pub all_zero : (n : ℕ) (numbers : List ℕ) → numbers ≡ replicate n 0 → length numbers ≡ n

@@ -1,3 +1,4 @@
 pub mod Printing
 pub mod RegisterNames
 pub mod Labelled
+pub mod Private

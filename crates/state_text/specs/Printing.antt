@@ -1,4 +1,6 @@
 -- How a debugger and a trace show numbers, registers and memory.
 pub mod Columns
 pub mod Memory
+pub mod Instructions
+pub mod Fields
 pub mod Registers

@@ -2,7 +2,8 @@
 
 ghost use Rattle.std.specs.Prelude.{◌≡◌, ◌<◌, ◌++◌, ℕ, suc, IfOk, OnOk, length, map, slice_index};
 ghost use Rattle.std.specs.Option.{option_map};
-ghost use Rattle.state_text.specs.Labelled.{address_of_label, first_named, AreNumbersIfAny, is_in_program, nearest_label, last_at, last_below, offset_text, parts_of, symbol_parts};
+ghost use Rattle.state_text.specs.Labelled.{address_of_label, first_named, is_in_program, label_up_to, last_label_at, nearest_label, offset_text, parts_of, symbol_parts, target_label};
+ghost use Rattle.state_text.specs.Private.Numbers.{AreNumbersIfAny, last_at, last_below};
 
 use crate::registers::is_same_name;
 use std::alloc::{AllocError, Global};
@@ -40,7 +41,8 @@ pub struct Labels {
 
 impl Model for Labels {
     ghost use Rattle.std.specs.Prelude.{map};
-    ghost use Rattle.state_text.specs.Labelled.{AreNumbersIfAny, Known, parts_of};
+    ghost use Rattle.state_text.specs.Labelled.{Known, parts_of};
+    ghost use Rattle.state_text.specs.Private.Numbers.{AreNumbersIfAny};
 
     ghost Value = { Known };
 
@@ -141,18 +143,51 @@ impl Labels {
         address >= FIRST_ADDRESS && address - FIRST_ADDRESS < self.size
     }
 
-    /// The label of an address of the program, and how many bytes after it the address is.
-    pub fn find(&self, address: u16) -> Option<(&[u8], u16)>
-        ensures { option_map (λ found. (found.0.now, found.1)) result ≡ nearest_label self.now address }
+    /// The nearest label of an address: of the labels that are not above it, the last one at their highest address.
+    fn up_to(&self, address: u16) -> Option<&Named>
+        ensures { option_map (λ label. parts_of label.now) result ≡ label_up_to self.now.labels address }
     {
-        if self.labels.is_empty() || !self.has(address) {
+        if self.labels.is_empty() {
             return None;
         }
         let number = self.numbers[address as usize];
         if number == 0 {
             return None;
         }
-        let label = self.labels.get(number - 1)?;
+        self.labels.get(number - 1)
+    }
+
+    /// The nearest label of an address of the program, and how many bytes after it the address is.
+    pub fn find(&self, address: u16) -> Option<(&[u8], u16)>
+        ensures { option_map (λ found. (found.0.now, found.1)) result ≡ nearest_label self.now address }
+    {
+        if !self.has(address) {
+            return None;
+        }
+        let label = self.up_to(address)?;
+        Some((&label.name, address.saturating_sub(label.address)))
+    }
+
+    /// The last label at just this address.
+    fn at(&self, address: u16) -> Option<&Named>
+        ensures { option_map (λ label. parts_of label.now) result ≡ last_label_at address self.now.labels }
+    {
+        let label = self.up_to(address)?;
+        if label.address == address {
+            Some(label)
+        } else {
+            None
+        }
+    }
+
+    /// The label with which a debugger prints an address: of one of the program, the nearest; of another, the last one at just that address.
+    pub fn target(&self, address: u16) -> Option<(&[u8], u16)>
+        ensures { option_map (λ found. (found.0.now, found.1)) result ≡ target_label self.now address }
+    {
+        if self.has(address) {
+            return self.find(address);
+        }
+        let label = self.at(address)?;
         Some((&label.name, address.saturating_sub(label.address)))
     }
 

@@ -1,6 +1,6 @@
 //! Loads from one register of 16 bits to another, which the Z80 mostly does not have, and what does the same.
 
-use operand_forms::{halves, is_pushed, name_text};
+use message_texts::{halves, is_pushed, name_text};
 use std::alloc::{AllocError, Global};
 use z80_form::Name;
 

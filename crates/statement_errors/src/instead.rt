@@ -5,7 +5,7 @@
 
 use crate::pattern::Written;
 use error_lines::Case;
-use operand_forms::{Operand, Shape, fits};
+use message_texts::{Operand, Shape, fits};
 use std::alloc::AllocError;
 use z80_form::{Mnemonic, Name, Pointed};
 use z80_instr::{AluOperation, Rotation};
@@ -153,7 +153,7 @@ const LOADS: [Row; 29] = [
     (POP, Shape::Memory, Shape::Absent, "POP HL/LD 1,HL"),
 ];
 
-/// What stands for a comparison of HL, which changes only the flags.
+/// What to write for a comparison of HL, which changes only the flags.
 const COMPARED: &str = "OR A/SBC HL,2/ADD HL,2";
 
 const SUMS: [Row; 33] = [

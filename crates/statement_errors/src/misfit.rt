@@ -5,10 +5,9 @@ use crate::instead::instead;
 use crate::meant::meant;
 use asm_line::Head;
 use error_lines::{Case, builds, divided, is_remark, nameless_equ, operands, replaced};
-use message_texts::{Draft, joined, shown};
-use operand_forms::{
-    Counts, Operand, all_firsts, firsts, form_written, is_jump, list_text, name_text, seconds,
-    takes,
+use message_texts::{
+    Counts, Draft, Operand, all_firsts, firsts, form_written, is_jump, joined, list_text,
+    name_text, seconds, shown, takes,
 };
 use std::alloc::AllocError;
 use z80_form::{Form, Mnemonic, Name, mnemonic_of};

@@ -3,8 +3,7 @@
 use asm_scan::{Kind, Mark};
 use bstr::ByteSlice;
 use error_lines::{Case, builds};
-use message_texts::{joined, shown};
-use operand_forms::{Operand, form_written, halves};
+use message_texts::{Operand, form_written, halves, joined, shown};
 use std::alloc::{AllocError, Global};
 use z80_form::Form;
 

@@ -3,8 +3,7 @@
 use asm_scan::{Kind, Mark, Token};
 use bstr::ByteSlice;
 use error_lines::{Case, do_build, statement_text};
-use message_texts::{joined, shown};
-use operand_forms::{is_jump, name_in, tokens_of};
+use message_texts::{is_jump, joined, name_in, shown, tokens_of};
 use std::alloc::AllocError;
 use z80_form::mnemonic_of;
 

@@ -7,8 +7,9 @@ use asm_scan::{Kind, Mark, Token};
 use asm_spell::{StmtFault, statement};
 use common::is_reserved;
 use error_lines::{Case, do_build, is_remark, local_parameter, may_build, operands};
-use foreign_words::{directive_instead, in_z80, is_intel, needs_operands, undocumented};
-use message_texts::{Draft, joined, shown};
+use message_texts::{
+    Draft, directive_instead, in_z80, is_intel, joined, needs_operands, shown, undocumented,
+};
 use std::alloc::{AllocError, Global};
 
 /// Whether tokens are a statement of the language, with a word of its own.

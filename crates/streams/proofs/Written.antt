@@ -10,7 +10,7 @@ use Rattle.std.specs.List.{flat_map}
 use Rattle.std.specs.Result.{IsErr}
 use Rattle.streams.specs.declared.writing.WriteFailed.{WriteFailed}
 use Rattle.streams.specs.Stream.{Stream, counted}
-use Rattle.streams.specs.Writing.{AppendsFront, Hands_on, PrintsBytes, Puts}
+use Rattle.streams.specs.Writing.{AppendsFront, Flushed, PrintsBytes, Puts}
 
 -- the first of the bytes are written, `rest` is still to be written, and the stream has not failed
 pub record Written (old new : Stream) (bytes rest : List ℕ) : Type 0 where
@@ -53,7 +53,7 @@ parts pieces k d lt =
     ∙ ap (λ front. front ++ flat_map f (drop (k + 1) pieces)) (sym (flat_map_more f [] (take k pieces) (get_or pieces k d)))
 
 -- all bytes are written, and then those that a buffer holds back are written out
-pub handed_on : (old mid new : Stream) (bytes : List ℕ) (result : Result Unit WriteFailed) → Puts old mid bytes (Ok tt) → Hands_on mid new result → PrintsBytes old new bytes result
+pub handed_on : (old mid new : Stream) (bytes : List ℕ) (result : Result Unit WriteFailed) → Puts old mid bytes (Ok tt) → Flushed mid new result → PrintsBytes old new bytes result
 handed_on old mid new bytes (Ok _) put flushed = ((Appends-kept old.bytes mid.bytes new.bytes bytes put.0 flushed.0, flushed.1 ∙ put.1), flushed.2)
 handed_on old mid new bytes (Err _) put flushed =
     ((length bytes, subst (Appends old.bytes new.bytes) (sym (take_all (length bytes) bytes (omega (arith)))) (Appends-kept old.bytes mid.bytes new.bytes bytes put.0 flushed.0)), flushed.1 ∙ ap counted put.1)

@@ -60,9 +60,9 @@ PrintsBytes old new bytes (Ok _) = PrintsAll old new bytes
 PrintsBytes old new bytes (Err _) = PutsFront old new bytes
 
 -- The bytes that a buffer holds back are written out; they already count as written.
-abbrev pub Hands_on : Stream → Stream → Result Unit WriteFailed → Type 0
-Hands_on old new (Ok _) = Keeps old.bytes new.bytes × (new.failures ≡ old.failures) × (new.held ≡ false)
-Hands_on old new (Err _) = Keeps old.bytes new.bytes × (new.failures ≡ counted old.failures)
+abbrev pub Flushed : Stream → Stream → Result Unit WriteFailed → Type 0
+Flushed old new (Ok _) = Keeps old.bytes new.bytes × (new.failures ≡ old.failures) × (new.held ≡ false)
+Flushed old new (Err _) = Keeps old.bytes new.bytes × (new.failures ≡ counted old.failures)
 
 -- the line that reports an error
 abbrev pub error_line : List ℕ → List ℕ

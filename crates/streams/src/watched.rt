@@ -1,6 +1,8 @@
 //! Writes to any writer of `std`.
 
-ghost use Rattle.std.specs.Prelude.{◌≡◌};
+ghost use Rattle.std.specs.Prelude.{◌≡◌, true};
+ghost use Rattle.std.specs.Io.{WritesAtMost};
+ghost use Rattle.std.specs.Io.KnownBytes.{WriteAppends};
 ghost use Rattle.streams.specs.Private.Steps.{Counts};
 ghost use Rattle.streams.specs.Stream.{counted, stream_of};
 
@@ -23,6 +25,7 @@ impl<W> WatchedSink<W> {
         ensures stream { result.stream ≡ stream }
         ensures failures { result.failures ≡ 0 }
         ensures interruptions { result.interruptions ≡ 0 }
+        ensures held { result.held ≡ true }
     {
         WatchedSink {
             stream,
@@ -68,12 +71,25 @@ impl<W> WatchedSink<W> {
     }
 }
 
+impl<W: Write> WatchedSink<W> {
+    /// Lets the writer take some of the bytes, which a buffer may hold back from then on.
+    fn take(&mut self, bytes: &[u8]) -> Result<usize, Error>
+        ensures bound { WritesAtMost result bytes.now }
+        ensures bytes { WriteAppends (W.contents self.old.stream) (W.contents self.new.stream) result bytes.now }
+        ensures failures { self.new.failures ≡ self.old.failures }
+        ensures interruptions { self.new.interruptions ≡ self.old.interruptions }
+        ensures held { self.new.held ≡ true }
+    {
+        self.held = true;
+        self.stream.write(bytes)
+    }
+}
+
 impl<W: Write> Sink for WatchedSink<W> {
     ghost stream = { λ w. stream_of (W.contents w.stream) w.failures w.interruptions w.held };
 
     fn write(&mut self, bytes: &[u8]) -> Result<usize, WriteFault> {
-        self.held = true;
-        match self.stream.write(bytes) {
+        match self.take(bytes) {
             // A writer that never takes a byte would be called for ever.
             Ok(0) => Err(self.failed()),
             Ok(count) => Ok(count),

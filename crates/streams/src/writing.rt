@@ -3,7 +3,7 @@
 ghost use Rattle.std.specs.Prelude.{◌<◌, length};
 ghost use Rattle.std.specs.List.{flat_map};
 ghost use Rattle.streams.specs.Private.Steps.{PutsSome};
-ghost use Rattle.streams.specs.Writing.{Hands_on, PrintsBytes, Puts, error_line};
+ghost use Rattle.streams.specs.Writing.{Flushed, PrintsBytes, Puts, error_line};
 
 use crate::sink::{Sink, WriteFault};
 
@@ -27,7 +27,7 @@ fn put_some<S: Sink>(sink: &mut S, bytes: &[u8]) -> Result<usize, WriteFailed>
 
 /// Writes out the bytes that a buffer holds back. A call that a signal interrupts is tried again.
 pub fn flush<S: Sink>(sink: &mut S) -> Result<(), WriteFailed>
-    ensures { Hands_on (S.stream sink.old) (S.stream sink.new) result }
+    ensures { Flushed (S.stream sink.old) (S.stream sink.new) result }
 {
     loop {
         match sink.flush() {

@@ -6,9 +6,10 @@ use bstr::ByteSlice;
 use error_lines::{
     COMMA, Case, begin_new, builds, do_build, is_remark, mended, operands, statement_text,
 };
-use foreign_words::{ONE_STATEMENT, are_statements, directive_instead};
-use message_texts::{Draft, joined, shown};
-use operand_forms::{Counts, Operand, form_written, is_jump, name_in};
+use message_texts::{
+    Counts, Draft, ONE_STATEMENT, Operand, are_statements, directive_instead, form_written,
+    is_jump, joined, name_in, shown,
+};
 use std::alloc::{AllocError, Global};
 use z80_form::{Form, Mnemonic, mnemonic_of};
 
@@ -128,7 +129,7 @@ fn unexpected(case: &Case<'_>, at: usize, word: &[u8], help: String) -> Result<D
     case.draft(at, 1, text).help(help)
 }
 
-/// The message about a number with a point or with `_` in it, given the number of the token after its first digits; None if it is none.
+/// The message about a number with a point or with `_` in it, given the number of the token after its first digits. None if there is no such number.
 fn in_number(case: &Case<'_>, at: usize) -> Result<Option<Draft>, AllocError> {
     let [front, mark] = case.tokens_at(at.saturating_sub(1), 2) else {
         return Ok(None);
@@ -185,7 +186,7 @@ fn are_in_call(case: &Case<'_>, at: usize) -> Result<bool, AllocError> {
         return Ok(false);
     };
     let line = case.source.line(case.finding.number);
-    let found = operand_forms::tokens_of(case.alloc, line)?;
+    let found = message_texts::tokens_of(case.alloc, line)?;
     let mut before: &[u8] = &[];
     for token in &found {
         if before == first.text && token.text == second.text {
@@ -196,7 +197,7 @@ fn are_in_call(case: &Case<'_>, at: usize) -> Result<bool, AllocError> {
     Ok(false)
 }
 
-/// What to write instead of a line that goes on with a word: a comment.
+/// What to write instead of a line with a word too many: a comment.
 fn as_comment(case: &Case<'_>, at: usize) -> Result<Option<String>, AllocError> {
     let alloc = case.alloc;
     let rest = case.tokens_at(at, case.tokens.len());

@@ -3,8 +3,9 @@
 use asm_line::{Head, is_word};
 use asm_scan::{Kind, Mark, Token};
 use error_lines::{CLOSE, Case, HERE, OPEN, PLUS, mended, operands};
-use message_texts::{Draft, joined, shown};
-use operand_forms::{Operand, form_written, is_jump, name_in, name_text, reserved_text};
+use message_texts::{
+    Draft, Operand, form_written, is_jump, joined, name_in, name_text, reserved_text, shown,
+};
 use std::alloc::AllocError;
 use z80_form::{Form, Mnemonic, Name, Pointed, mnemonic_of};
 

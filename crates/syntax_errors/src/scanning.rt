@@ -5,11 +5,10 @@ use asm_scan::{Kind, LONGEST_LINE, ScanFault, continues_name};
 use bstr::ByteSlice;
 use common::is_reserved;
 use error_lines::{Case, builds};
-use foreign_words::{
-    ONE_STATEMENT, begins_statement, directive_instead, of_preprocessor, unicode_instead,
+use message_texts::{
+    Draft, Extent, ONE_STATEMENT, Spot, begins_statement, directive_instead, first_uncut,
+    is_whole_group, of_preprocessor, shown, tokens_of, unicode_instead,
 };
-use message_texts::{Draft, Extent, Spot, first_uncut, shown};
-use operand_forms::{is_whole_group, tokens_of};
 use std::alloc::{AllocError, Global};
 use z80_form::mnemonic_of;
 
@@ -58,7 +57,7 @@ pub fn hexadecimal(alloc: Global, digits: &[u8]) -> Result<Option<String>, Alloc
     Ok(Some(number_text(alloc, digits, "H")?))
 }
 
-/// The digits of a number that may also have the letter of its base behind it: `101` of `101B`.
+/// The digits of a number, without the letter of its base after them: `101` of `101B`.
 pub(crate) fn without_letter(digits: &[u8], letter: u8) -> &[u8] {
     match digits {
         [front @ .., last] if last.to_ascii_lowercase() == letter => front,
@@ -156,7 +155,7 @@ impl<'c, 'a> Uncut<'c, 'a> {
         }
     }
 
-    /// The message about a number that is none.
+    /// The message about a word that begins as a number, and is none.
     fn bad_number(&self) -> Result<Draft, AllocError> {
         let alloc = self.alloc;
         let token = shown(alloc, self.token)?;

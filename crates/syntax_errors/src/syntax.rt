@@ -11,9 +11,10 @@ use common::is_reserved;
 use error_lines::{
     CLOSE, COMMA, Case, PLUS, builds, is_expression, mended, nameless_equ, operands,
 };
-use foreign_words::{ONE_STATEMENT, are_statements};
-use message_texts::{Draft, joined, shown};
-use operand_forms::{Operand, expression_in, form_written, left_open, name_in};
+use message_texts::{
+    Draft, ONE_STATEMENT, Operand, are_statements, expression_in, form_written, joined, left_open,
+    name_in, shown,
+};
 use std::alloc::{AllocError, Global};
 use z80_form::{Field, Form, Name, mnemonic_of};
 
@@ -121,7 +122,7 @@ const ESCAPES: [(&[u8], &str); 8] = [
     (b"\\\\", "'\\'"),
 ];
 
-/// What to write instead of a string that is a backslash and a letter; None if it is none.
+/// What to write instead of a string that is a backslash and a letter. None if it is another string.
 fn escaped(alloc: Global, text: &[u8]) -> Result<Option<String>, AllocError> {
     let inside = text.get(1..text.len().saturating_sub(1)).unwrap_or(&[]);
     for (escape, code) in &ESCAPES {
@@ -328,7 +329,7 @@ fn foreign(case: &Case<'_>, at: usize, token: &Token<'_>) -> Result<Draft, Alloc
     }
 }
 
-/// The message about a hexadecimal number after `$`; None if it is none.
+/// The message about a hexadecimal number after `$`. None if there is no such number.
 fn after_dollar(
     case: &Case<'_>,
     at: usize,
@@ -409,7 +410,7 @@ fn incomplete(case: &Case<'_>, part: &Operand<'_>) -> Result<Draft, AllocError> 
     Ok(case.draft(at, 1, text))
 }
 
-/// The line with the parenthesis that closes this one, as far behind it as the line then builds.
+/// The line with the parenthesis that closes this one, at the last place where the line then builds.
 fn closed(case: &Case<'_>, open: usize) -> Result<Option<String>, AllocError> {
     let behind = case.tokens.len().saturating_sub(open);
     for back in 0..behind {

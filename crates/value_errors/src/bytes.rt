@@ -8,13 +8,12 @@ use asm_parse::{Binary, ExprFault, Item, TermView, Tree};
 use asm_scan::{Kind, Mark, Token};
 use asm_spell::{Body, Line};
 use error_lines::{Case, operands, statement_text};
-use message_texts::{Draft, joined};
-use operand_forms::{Operand, form_written, name_text, tokens_of};
+use message_texts::{Draft, Operand, form_written, joined, name_text, tokens_of};
 use source_errors::Known;
 use std::alloc::{AllocError, Global};
 use z80_form::{Form, Mnemonic, Name, mnemonic_of};
 
-/// The expression behind LOW and HIGH, which bind tighter than other operators.
+/// The expression after LOW or HIGH, which bind tighter than other operators.
 pub(crate) fn as_operand(alloc: Global, part: &Operand<'_>) -> Result<String, AllocError> {
     let written = joined(alloc, part.tokens)?;
     match part.tokens {

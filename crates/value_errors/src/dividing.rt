@@ -5,8 +5,7 @@ use asm_line::is_word;
 use asm_scan::{Kind, Mark, Token};
 use common::is_reserved;
 use error_lines::{Case, Worth, judge};
-use message_texts::{Draft, joined};
-use operand_forms::{Operand, left_open};
+use message_texts::{Draft, Operand, joined, left_open};
 use std::alloc::AllocError;
 
 /// The divisor after an operator: the next token, or what its parentheses have.

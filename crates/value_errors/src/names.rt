@@ -9,8 +9,7 @@ use asm_names::{Kind, SourceLine};
 use asm_spell::{Body, Line};
 use common::is_reserved;
 use error_lines::Case;
-use message_texts::{Draft, shown, token_named};
-use operand_forms::{reserved_text, tokens_of};
+use message_texts::{Draft, reserved_text, shown, token_named, tokens_of};
 use source_errors::Known;
 use std::alloc::AllocError;
 

@@ -9,8 +9,7 @@ use common::is_reserved;
 use error_lines::{
     CLOSE, Case, OPEN, PLUS, Worth, builds, distance_of, judge, mended, operands, worth_of,
 };
-use message_texts::{Draft, joined, shown};
-use operand_forms::{Operand, expression_in, form_written, has_name};
+use message_texts::{Draft, Operand, expression_in, form_written, has_name, joined, shown};
 use std::alloc::{AllocError, Global};
 use z80_form::{Field, Form, Mnemonic, Name, mnemonic_of};
 

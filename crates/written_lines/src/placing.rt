@@ -1,6 +1,6 @@
 //! Places of reports in lines of macros and REPTs: the line as it is written, and the calls that lead to it.
 
-ghost use Rattle.std.specs.Prelude.{◌≡◌, IfOk};
+ghost use Rattle.std.specs.Prelude.{◌≡◌, IfOk, IfSome};
 
 use crate::body_names::BodyNames;
 use crate::cutting::tokens_of;
@@ -28,7 +28,10 @@ pub struct Site<'e> {
 
 impl<'e> Site<'e> {
     /// A line that is assembled as it is written.
-    pub fn plain(line: u32, text: &'e [u8]) -> Site<'e> {
+    pub fn plain(line: u32, text: &'e [u8]) -> Site<'e>
+        ensures reported { result.reported ≡ line }
+        ensures written { result.line ≡ line }
+    {
         Site {
             reported: line,
             line,
@@ -39,7 +42,9 @@ impl<'e> Site<'e> {
     }
 
     /// This line of an expansion, counted from 0, if building reports it by this line.
-    pub fn traced(trace: &'e Trace, at: usize, reported: u32) -> Option<Site<'e>> {
+    pub fn traced(trace: &'e Trace, at: usize, reported: u32) -> Option<Site<'e>>
+        ensures { IfSome result (λ site. site.reported ≡ reported) }
+    {
         let line = trace.lines.get(at)?;
         let written = trace.written.get(at)?;
         if line.number != reported {
@@ -55,7 +60,11 @@ impl<'e> Site<'e> {
     }
 
     /// Bytes of the line, with the names of LOCAL lines as the bodies of macros have them.
-    fn own_bytes(&self, alloc: Global, bytes: &[u8]) -> Result<Vec<u8>, AllocError> {
+    ///
+    /// # Errors
+    ///
+    /// [`AllocError`] if memory ran out.
+    pub fn own_bytes(&self, alloc: Global, bytes: &[u8]) -> Result<Vec<u8>, AllocError> {
         match self.names {
             Some(names) => names.renamed(alloc, bytes),
             None => bytes.to_vec(alloc),
@@ -138,17 +147,17 @@ impl<'s, 'f> Sources<'s, 'f> {
         source: usize,
         site: Site<'_>,
         place: Place,
-    ) -> Result<Where<'f>, AllocError>
-        ensures { IfOk result (λ w. (w.source ≡ source) × (w.reported ≡ site.entry.reported)) }
+    ) -> Result<Where, AllocError>
+        ensures source { IfOk result (λ w. w.source ≡ source) }
+        ensures reported { IfOk result (λ w. w.reported ≡ site.entry.reported) }
+        ensures written { IfOk result (λ w. w.written ≡ site.entry.line) }
     {
         let (text, place) = site.own_part(alloc, place)?;
         let at = written_at(self.line(source, site.line), &text, place.at);
-        let own = self.located(source, site.line);
         Ok(Where {
-            path: own.path,
             source,
             reported: site.reported,
-            line: own.line,
+            written: site.line,
             column: at.saturating_add(1),
             text,
             place,
@@ -166,7 +175,11 @@ impl<'s, 'f> Sources<'s, 'f> {
         source: usize,
         site: Site<'_>,
         marked: &[u8],
-    ) -> Result<Where<'f>, AllocError> {
+    ) -> Result<Where, AllocError>
+        ensures source { IfOk result (λ w. w.source ≡ source) }
+        ensures reported { IfOk result (λ w. w.reported ≡ site.entry.reported) }
+        ensures written { IfOk result (λ w. w.written ≡ site.entry.line) }
+    {
         let place = place_of_name(alloc, site.text, marked)?;
         self.place(alloc, source, site, place)
     }

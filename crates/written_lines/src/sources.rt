@@ -1,12 +1,14 @@
 //! Sources after a front: their texts, and their lines by the files that they are in.
 
+ghost use Rattle.std.specs.Prelude.{◌≡◌, IfOk};
+
 use crate::cutting::tokens_of;
 use asm_macro::source_part;
 use asm_module::Module;
 use asm_scan::Token;
-use message_texts::{Place, place_of_name};
+use message_texts::place_of_name;
 use report_texts::Where;
-use shared_lines::{Front, Located, SourceFile, locate};
+use shared_lines::{Front, Located, SourceFile, locate, path_at};
 use std::alloc::{AllocError, Global};
 
 /// Sources after a front.
@@ -91,10 +93,7 @@ fn has_token(tokens: &[Token<'_>], name: &[u8]) -> bool {
 impl<'s, 'f> Sources<'s, 'f> {
     /// The path of a source.
     pub fn path(&self, source: usize) -> &'f str {
-        match self.files.get(source) {
-            Some(file) => file.path,
-            None => "",
-        }
+        path_at(self.files, source)
     }
 
     /// How many lines the front has, as the number of a line.
@@ -129,27 +128,7 @@ impl<'s, 'f> Sources<'s, 'f> {
 
     /// The file of a line of a source, and the line's number there. A line that a word of the command line stands for is in the word.
     pub fn located(&self, source: usize, line: u32) -> Located<'f> {
-        match self.front.defines.get(line.saturating_sub(1) as usize) {
-            Some(word) => Located {
-                path: *word,
-                line: 1,
-            },
-            None => locate(self.front, self.path(source), line),
-        }
-    }
-
-    /// A part of a line that stands as it is written.
-    fn part(&self, source: usize, line: u32, text: Vec<u8>, place: Place) -> Where<'f> {
-        let own = self.located(source, line);
-        Where {
-            path: own.path,
-            source,
-            reported: line,
-            line: own.line,
-            column: place.at.saturating_add(1),
-            text,
-            place,
-        }
+        locate(self.front, self.path(source), line)
     }
 
     /// The line with this number, and in it the first token that is this name or word; all tokens if none is.
@@ -163,10 +142,20 @@ impl<'s, 'f> Sources<'s, 'f> {
         source: usize,
         line: u32,
         marked: &[u8],
-    ) -> Result<Where<'f>, AllocError> {
+    ) -> Result<Where, AllocError>
+        ensures source { IfOk result (λ w. w.source ≡ source) }
+        ensures written { IfOk result (λ w. w.written ≡ line) }
+    {
         let text = self.line(source, line).to_vec(alloc)?;
         let place = place_of_name(alloc, &text, marked)?;
-        Ok(self.part(source, line, text, place))
+        Ok(Where {
+            source,
+            reported: line,
+            written: line,
+            column: place.at.saturating_add(1),
+            text,
+            place,
+        })
     }
 }
 

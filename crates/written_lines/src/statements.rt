@@ -1,4 +1,6 @@
-//! Finds the lines in which the statements of a program are written, for what is said about its jumps.
+//! Finds the lines in which the statements of a program are written, for messages about its jumps.
+
+ghost use Rattle.std.specs.Prelude.{◌≡◌, IfSome};
 
 use crate::cutting::tokens_of;
 use crate::placing::Site;
@@ -63,7 +65,9 @@ fn statements_of(alloc: Global, text: &[u8]) -> Result<Option<Statements>, Alloc
 
 impl Statements {
     /// Where a statement is written, if building reports it by this line.
-    fn site(&self, statement: usize, reported: u32) -> Option<Site<'_>> {
+    fn site(&self, statement: usize, reported: u32) -> Option<Site<'_>>
+        ensures { IfSome result (λ site. site.reported ≡ reported) }
+    {
         let at = *self.lines.get(statement)?;
         Site::traced(&self.trace, at, reported)
     }
@@ -90,7 +94,9 @@ impl Expansions {
         source: usize,
         statement: usize,
         reported: u32,
-    ) -> Site<'e> {
+    ) -> Site<'e>
+        ensures { result.reported ≡ reported }
+    {
         let found = match self.each.get(source) {
             Some(Some(statements)) => statements.site(statement, reported),
             _ => None,

@@ -1,6 +1,6 @@
 //! The jobs that words ask for, each with the values of its words.
 
-/// What stands before the first line of each source.
+/// The lines before the first line of each source.
 #[derive(Debug, Drop)]
 pub struct Shared<'a> {
     /// The definitions, as `NAME=VALUE`, in the order of the words.

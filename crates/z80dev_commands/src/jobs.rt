@@ -120,7 +120,7 @@ fn target<'a>(found: &ArgMatches<'a>) -> Target<'a>
     }
 }
 
-/// What stands before each source.
+/// The lines before each source.
 fn shared<'a>(alloc: Global, found: &ArgMatches<'a>) -> Result<Shared<'a>, AllocError>
     ensures { IfOk result (λ shared. FindsShared shared (rows_of (found_of found.now))) }
 {

@@ -10,7 +10,7 @@ use Rattle.cpm_directory.specs.Entries.{is_match, is_read_only}
 use Rattle.cpm_directory.specs.Letters.{name_matches}
 use Rattle.cpm_directory.specs.Rules.{IsSound}
 use Rattle.cpm_directory.specs.Searches.{is_file}
-use Rattle.cpm_operations.specs.Steps.{erasure, unless}
+use Rattle.cpm_disk.specs.Steps.{erasure, unless}
 use Rattle.cpm_disk.specs.Calls.{Mounted}
 use Rattle.cpm_disk.specs.Files.{IsMarkedFile, IsMatched, IsNoFile, OthersAreSame}
 use Rattle.cpm_disk.specs.Image.{Image, directory}

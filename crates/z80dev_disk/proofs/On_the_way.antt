@@ -13,9 +13,9 @@ use Rattle.cpm_directory.specs.declared.fault.DiskFault.TheVariants as fault
 use Rattle.cpm_directory.specs.Entries.{block, is_extent_of, is_of, new_extent, with_record}
 use Rattle.cpm_directory.specs.Rules.{IsSound}
 use Rattle.cpm_directory.specs.Searches.{file_is_read_only, free_block, free_entry, is_file}
-use Rattle.cpm_operations.specs.Steps.{◌>>=◌, block_place, extent_place, found_or_new, some_or, unless, writing}
-use Rattle.cpm_operations.specs.declared.placement.Placement.{Placement}
-use Rattle.cpm_operations.proofs.Results.{unless_ok}
+use Rattle.cpm_disk.specs.Steps.{◌>>=◌, block_place, extent_place, found_or_new, some_or, unless, writing}
+use Rattle.cpm_disk.specs.declared.placement.Placement.{Placement}
+use Rattle.cpm_disk.proofs.Results.{unless_ok}
 use Rattle.cpm_disk.specs.Calls.{Mounted, Written}
 use Rattle.cpm_disk.specs.Files.{HasRecord, IsFile, IsNewFile, OthersAreSame}
 use Rattle.cpm_disk.specs.Image.{Image, directory}

@@ -11,7 +11,7 @@ use Rattle.cpm_directory.specs.declared.entry.Entry.{Entry}
 use Rattle.cpm_directory.specs.Entries.{at, blank, extent_number, is_extent_of, is_match, is_of, is_read_only, is_system}
 use Rattle.cpm_directory.specs.Letters.{byte_matches, letters, name_matches}
 use Rattle.cpm_directory.specs.Searches.{is_file}
-use Rattle.cpm_operations.proofs.Entries.{of_file}
+use Rattle.cpm_disk.proofs.Entries.{of_file}
 use Rattle.cpm_disk.proofs.Attributes.{none_with}
 use Rattle.cpm_disk.proofs.Places.{length_directory}
 use Rattle.cpm_disk.specs.Files.{IsFile, IsMatched, IsNoFile, OthersAreSame, SameFile, in_block}

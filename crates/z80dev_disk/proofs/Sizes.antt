@@ -9,7 +9,7 @@ use Rattle.cpm_directory.specs.declared.entry.TheConstants.{USERS}
 use Rattle.cpm_directory.specs.Entries.{at, blank, extent_number, is_extent_of, is_of, record_end}
 use Rattle.cpm_directory.specs.Rules.{IsSound}
 use Rattle.cpm_directory.specs.Searches.{is_file, size}
-use Rattle.cpm_operations.proofs.Entries.{found_at}
+use Rattle.cpm_disk.proofs.Entries.{found_at}
 use Rattle.cpm_disk.proofs.Maps.{extent_found}
 use Rattle.cpm_disk.specs.Files.{count_of}
 use Rattle.cpm_disk.specs.Image.{Image, directory}

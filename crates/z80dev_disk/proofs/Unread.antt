@@ -8,7 +8,7 @@ use Rattle.cpm_directory.specs.declared.fault.DiskFault.{DiskFault}
 use Rattle.cpm_directory.specs.declared.fault.DiskFault.TheVariants as fault
 use Rattle.cpm_directory.specs.Entries.{has_record, is_extent_of, place_on_disk}
 use Rattle.cpm_directory.specs.Searches.{is_file}
-use Rattle.cpm_operations.specs.Steps.{◌>>=◌, some_or, reading, unless, written_place}
+use Rattle.cpm_disk.specs.Steps.{◌>>=◌, some_or, reading, unless, written_place}
 use Rattle.cpm_disk.specs.Calls.{Mounted}
 use Rattle.cpm_disk.specs.Files.{file_record, in_block}
 use Rattle.cpm_disk.specs.Image.{Image, directory}

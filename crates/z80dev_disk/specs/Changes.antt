@@ -9,7 +9,7 @@ use Rattle.cpm_directory.specs.declared.attribute.Attribute.{Attribute}
 use Rattle.cpm_directory.specs.declared.entry.Entry.{Entry}
 use Rattle.cpm_directory.specs.declared.fault.DiskFault.{DiskFault}
 use Rattle.cpm_directory.specs.declared.fault.DiskFault.TheVariants as fault
-use Rattle.cpm_operations.specs.Steps.{after_erasure, after_marking, after_renaming, erasure, marking, renaming}
+use Rattle.cpm_disk.specs.Steps.{after_erasure, after_marking, after_renaming, erasure, marking, renaming}
 use Rattle.cpm_disk.specs.Calls.{Changed}
 use Rattle.cpm_disk.specs.Files.{IsEither, IsMarkedFile, IsMatched, IsMoved, IsNoFile, OthersAreSame}
 use Rattle.cpm_disk.specs.Image.{Image, directory}

@@ -9,8 +9,8 @@ use Rattle.cpm_directory.specs.Searches.{file_is_read_only, file_is_system, is_f
 use Rattle.cpm_directory.specs.declared.entry.Entry.{Entry}
 use Rattle.cpm_directory.specs.declared.fault.DiskFault.{DiskFault}
 use Rattle.cpm_directory.specs.declared.fault.DiskFault.TheVariants as fault
-use Rattle.cpm_operations.specs.Steps.{creation, erasure, writing}
-use Rattle.cpm_operations.specs.declared.placement.Placement.{Placement}
+use Rattle.cpm_disk.specs.Steps.{creation, erasure, writing}
+use Rattle.cpm_disk.specs.declared.placement.Placement.{Placement}
 use Rattle.cpm_disk.specs.Calls.{Changed, Written}
 use Rattle.cpm_disk.specs.Files.{IsFile, OthersAreSame, file_record}
 use Rattle.cpm_disk.specs.Image.{Image, directory}

@@ -2,7 +2,7 @@
 
 ghost use Rattle.std.specs.Prelude.{◌≡◌, ◌<◌, IfErr, OnOk, false};
 ghost use Rattle.cpm_directory.specs.declared.entry.TheConstants.{USERS};
-ghost use Rattle.cpm_operations.specs.Refusals.{RefusesErasure, RefusesMarking, RefusesRenaming};
+ghost use Rattle.cpm_disk.specs.Refusals.{RefusesErasure, RefusesMarking, RefusesRenaming};
 ghost use Rattle.z80dev_disk.specs.Along.{Along, IsRefusedAlong};
 ghost use Rattle.z80dev_disk.specs.Changes.{Erases, IsErasedImage, IsMarkedImage, IsRenamedImage, Marks, StopsErasing, StopsMarking, refused_name, pattern_itself};
 ghost use Rattle.z80dev_disk.specs.Private.{IsRefusedAt};

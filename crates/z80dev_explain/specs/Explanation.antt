@@ -3,9 +3,10 @@ use Rattle.std.specs.Prelude.{◌≡◌, ℕ, Bool, true, false, ◌==◌, List,
 use Rattle.shared_lines.specs.declared.front.SourceFile.{SourceFile}
 use Rattle.shared_lines.specs.declared.front.Front.{Front}
 use Rattle.z80dev_explain.specs.Explained.{IsExplained}
-use Rattle.report_texts.specs.Printed.{IsPrinted}
+use Rattle.report_texts.specs.Json.{IsPrinted}
 use Rattle.z80dev_explain.specs.declared.explaining.Asked.{Asked}
 use Rattle.report_texts.specs.declared.printing.Form.{Form}
+use Rattle.report_texts.specs.declared.report.Files.{Files}
 use Rattle.report_texts.specs.declared.report.Report.{Report}
 
 -- there is a program, and nothing to report
@@ -21,19 +22,24 @@ abbrev pub summary_of : Bool → List Report → Option (List ℕ)
 summary_of false reports = Some (count_text (length reports) (codes "error"))
 summary_of true reports = if length reports == 0 then None else Some (count_text (length reports) (codes "warning") ++ codes ", no error")
 
--- This text is that of the reports, followed by that of the notes about long jumps.
-abbrev pub IsPrintedWith : Form → List Report → List Report → List ℕ → Type 0
-IsPrintedWith form reports longs text = (first : List ℕ) × (second : List ℕ) × IsPrinted form reports first × IsPrinted form longs second × (text ≡ first ++ second)
+-- This text is that of the reports about files, followed by that of the notes about long jumps.
+abbrev pub IsPrintedWith : Files → Form → List Report → List Report → List ℕ → Type 0
+IsPrintedWith files form reports longs text =
+    (first : List ℕ) × (second : List ℕ) × IsPrinted files form reports first × IsPrinted files form longs second × (text ≡ first ++ second)
 
--- The sources are explained so, and summed up so; there is no summary exactly if there is a program and nothing to report. Notes about long jumps are
--- printed only if they are asked for.
+-- the files that reports about sources after a front name
+abbrev pub AreFilesOf : Front → List SourceFile → Files → Type 0
+AreFilesOf front sources files = (files.front ≡ front) × (files.sources.now ≡ sources)
+
+-- The sources are explained so, and summed up so; there is no summary exactly if there is a program and nothing to report.
 pub record IsExplanation (front : Front) (asked : Asked) (files : List SourceFile) (text : List ℕ) (summary : Option (List ℕ)) : Type 0 where
   pub has_program : Bool
   pub reports : List Report
   pub longs : List Report
-  pub explained : IsExplained front asked.grow files has_program reports
-  pub unasked : asked.jumps ≡ false → longs ≡ []
-  pub printed : IsPrintedWith asked.form reports longs text
+  pub explained : IsExplained front asked.grow asked.jumps files has_program reports longs
+  pub paths : Files
+  pub are : AreFilesOf front files paths
+  pub printed : IsPrintedWith paths asked.form reports longs text
   pub sum : summary ≡ summary_of has_program reports
   pub fine : summary ≡ None → IsFine has_program reports
   pub wrong : IsFine has_program reports → summary ≡ None

@@ -4,12 +4,16 @@ ghost use Rattle.std.specs.Prelude.{◌≡◌, IfOk, OnOk, true};
 ghost use Rattle.std.specs.List.{list_any};
 ghost use Rattle.z80dev_explain.specs.Reports.{is_report_of};
 
+use crate::adapting::{overlong, with_shared};
+use crate::gathering::{Found, Gathered};
 use asm_line::{BlockWord, Head, form_of, names};
 use asm_macro::MacroFault;
-use asm_module::{AsmFault, Why};
+use asm_module::{AsmFault, StmtFault, Why};
 use asm_scan::{ScanFault, tokens};
-use common::NameKey;
-use error_messages::{Before, Note, Place, SourceLines, empty_parameter, message, opener_of};
+use common::{LONGEST_TEXT, NameKey};
+use error_messages::{
+    Before, Message, Note, Place, SourceLines, empty_parameter, message, opener_of,
+};
 use report_texts::{Report, Severity, Where};
 use shared_lines::why_name;
 use source_errors::{Finding, Findings, Known, find_errors};
@@ -37,6 +41,27 @@ impl<'s, 'f> Faulty<'s, 'f> {
         self.text.line(finding.number) == finding.text.as_slice()
     }
 
+    /// Whether an error is that the source has too many bytes, and not that it takes too many lines.
+    fn is_overlong(&self, finding: &Finding) -> bool {
+        finding.why == Why::Macro(MacroFault::TooManyLines)
+            && self.sources.text(self.source).len() > LONGEST_TEXT
+    }
+
+    /// Answers what is said of an error, given what is said of it in a source about whose files nothing is known.
+    fn adapted(&self, finding: &Finding, message: Message) -> Result<Message, AllocError> {
+        let alloc = self.alloc;
+        let front = self.sources.front;
+        match finding.why {
+            Why::Macro(_) if self.is_overlong(finding) => {
+                overlong(alloc, self.sources.text(self.source).len(), message)
+            }
+            Why::Stmt(StmtFault::UnknownWord) if front.files.is_empty() => {
+                with_shared(alloc, message)
+            }
+            _ => Ok(message),
+        }
+    }
+
     /// Answers the report of an error of the source, which has this number, with these notes after those of its message.
     fn report(
         &self,
@@ -44,11 +69,12 @@ impl<'s, 'f> Faulty<'s, 'f> {
         finding: &Finding,
         site: Site<'_>,
         notes: Vec<Note>,
-    ) -> Result<Report<'f>, AllocError>
+    ) -> Result<Report, AllocError>
         ensures { IfOk result (λ r. is_report_of source (record { line = site.entry.reported; why = finding.now.why }) r ≡ true) }
     {
         let alloc = self.alloc;
         let message = message(alloc, &self.text, finding, self.known.as_ref())?;
+        let message = self.adapted(finding, message)?;
         let mut all = site.own_notes(alloc, &message.notes)?;
         self.sources.put_calls(alloc, self.source, site, &mut all)?;
         let mut notes = notes;
@@ -65,27 +91,36 @@ impl<'s, 'f> Faulty<'s, 'f> {
             at: Some(at),
             text: site.own_text(alloc, &message.text)?,
             name: String::from_str(alloc, why_name(finding.why))?,
+            about: self.about(finding, site)?,
             notes: all,
         })
     }
 
-    /// Answers the report of an error that is only counted, since it comes after those that are printed.
-    fn counted(&self, finding: &Finding) -> Result<Report<'f>, AllocError> {
+    /// What an error is about: a name, in upper case; or if that is not known, its line with the arguments of the calls. Names that LOCAL makes are
+    /// as the body has them, since each source gets others.
+    fn about(&self, finding: &Finding, site: Site<'_>) -> Result<Vec<u8>, AllocError> {
+        match &finding.name {
+            Some(name) => site.own_bytes(self.alloc, name),
+            None => site.own_bytes(self.alloc, &finding.text),
+        }
+    }
+
+    /// Answers the report of an error without what it says: only where the error is, its name, and the name that it is about.
+    fn counted(&self, finding: &Finding, site: Site<'_>) -> Result<Report, AllocError> {
         let alloc = self.alloc;
-        let own = self.sources.located(self.source, finding.number);
         Ok(Report {
             severity: Severity::Error,
             at: Some(Where {
-                path: own.path,
                 source: self.source,
-                reported: finding.number,
-                line: own.line,
+                reported: site.reported,
+                written: site.line,
                 column: 1,
                 text: Vec::new(alloc),
                 place: Place { at: 0, len: 0 },
             }),
             text: String::new(alloc),
             name: String::from_str(alloc, why_name(finding.why))?,
+            about: self.about(finding, site)?,
             notes: Vec::new(alloc),
         })
     }
@@ -134,13 +169,25 @@ impl<'s, 'f> Faulty<'s, 'f> {
         })
     }
 
+    /// Answers the report that a source has too many bytes, in its first line after the front. Building finds that in the first line of all.
+    fn report_overlong(&self, finding: &Finding, first: Site<'_>) -> Result<Report, AllocError> {
+        let line = self.sources.after_front(1);
+        let moved = self.moved(finding, line)?;
+        let site = Site {
+            line,
+            text: &moved.text,
+            ..first
+        };
+        self.report(self.source, &moved, site, Vec::new(self.alloc))
+    }
+
     /// Answers the report of a call that stops for a LOCAL, in the line of that.
     fn report_local(
         &self,
         finding: &Finding,
         line: u32,
         call: Site<'_>,
-    ) -> Result<Report<'f>, AllocError> {
+    ) -> Result<Report, AllocError> {
         let moved = self.moved(finding, line)?;
         let mut calls = call.calls.to_vec(self.alloc)?;
         calls.push(call.line)?;
@@ -159,7 +206,7 @@ impl<'s, 'f> Faulty<'s, 'f> {
         finding: &Finding,
         line: u32,
         closer: Site<'_>,
-    ) -> Result<Report<'f>, AllocError> {
+    ) -> Result<Report, AllocError> {
         let alloc = self.alloc;
         let moved = self.moved(finding, line)?;
         let found = tokens_of(alloc, &finding.text)?;
@@ -273,9 +320,8 @@ impl<'s, 'f> Faulty<'s, 'f> {
     }
 
     /// Answers the report of an error.
-    fn report_group(&self, group: &Group, finding: &Finding) -> Result<Report<'f>, AllocError> {
-        // Only the first error can be the one at which the expansion stops.
-        if group.finding == 0 && matches!(finding.why, Why::Macro(_)) {
+    fn report_group(&self, group: &Group, finding: &Finding) -> Result<Report, AllocError> {
+        if is_stop(group, finding) {
             if let Some(site) = self.stop_site(finding.number) {
                 let stopped = self.stopped(finding, site)?;
                 return self.report_found(group, &stopped, site);
@@ -290,7 +336,10 @@ impl<'s, 'f> Faulty<'s, 'f> {
         group: &Group,
         finding: &Finding,
         site: Site<'_>,
-    ) -> Result<Report<'f>, AllocError> {
+    ) -> Result<Report, AllocError> {
+        if self.is_overlong(finding) {
+            return self.report_overlong(finding, site);
+        }
         if let Some(line) = self.stray_local(finding)? {
             return self.report_local(finding, line, site);
         }
@@ -332,12 +381,7 @@ impl<'s, 'f> Faulty<'s, 'f> {
 
     /// Appends the reports of lines in macros and REPTs that cannot be cut into tokens, each once, but that of the line with the number
     /// `stop`, at which the expansion stops.
-    fn put_uncut(
-        &self,
-        stop: u32,
-        most: usize,
-        reports: &mut Vec<Report<'f>>,
-    ) -> Result<(), AllocError> {
+    fn put_uncut(&self, stop: u32, gathered: &mut Gathered) -> Result<(), AllocError> {
         let Some(trace) = &self.traces.whole else {
             return Ok(());
         };
@@ -351,47 +395,78 @@ impl<'s, 'f> Faulty<'s, 'f> {
             };
             if !*seen && site.line != stop {
                 *seen = true;
-                self.put_uncut_in(site, most, reports)?;
+                self.put_uncut_in(site, gathered)?;
             }
         }
         Ok(())
     }
 
     /// Appends the report of a line that cannot be cut into tokens, if it is one.
-    fn put_uncut_in(
-        &self,
-        site: Site<'_>,
-        most: usize,
-        reports: &mut Vec<Report<'f>>,
-    ) -> Result<(), AllocError> {
+    fn put_uncut_in(&self, site: Site<'_>, gathered: &mut Gathered) -> Result<(), AllocError> {
         let Some(finding) = self.uncut_in(site)? else {
             return Ok(());
         };
         let text = finding.text.as_slice();
         let site = Site { text, ..site };
-        reports.push(if reports.len() < most {
+        let counted = self.counted(&finding, site)?;
+        if !gathered.is_new(self.alloc, &counted)? {
+            return Ok(());
+        }
+        let report = if gathered.takes_room(Found::Uncut) {
             self.report(self.source, &finding, site, Vec::new(self.alloc))?
         } else {
-            self.counted(&finding)?
-        })?;
+            counted
+        };
+        gathered.push(report)
+    }
+
+    /// Appends the report of the error at which the expansion stops. It may be written in another line than its finding says.
+    fn put_stop(
+        &self,
+        group: &Group,
+        finding: &Finding,
+        gathered: &mut Gathered,
+    ) -> Result<(), AllocError> {
+        let report = self.report_group(group, finding)?;
+        if gathered.is_new(self.alloc, &report)? {
+            gathered.push(report)?;
+        }
         Ok(())
     }
 
-    /// Appends the reports of errors, as long as there are fewer than `most` with all that they say; the others are only counted.
+    /// Appends the report of an error at which the expansion does not stop.
+    fn put_group(
+        &self,
+        group: &Group,
+        finding: &Finding,
+        gathered: &mut Gathered,
+    ) -> Result<(), AllocError> {
+        let counted = self.counted(finding, self.site(group, finding))?;
+        if !gathered.is_new(self.alloc, &counted)? {
+            return Ok(());
+        }
+        let report = if gathered.takes_room(Found::Assembled) {
+            self.report_group(group, finding)?
+        } else {
+            counted
+        };
+        gathered.push(report)
+    }
+
+    /// Appends the reports of errors.
     fn put_groups(
         &self,
         findings: &[Finding],
         groups: &[Group],
-        most: usize,
-        reports: &mut Vec<Report<'f>>,
+        gathered: &mut Gathered,
     ) -> Result<(), AllocError> {
         for group in groups {
-            if let Some(finding) = findings.get(group.finding) {
-                if reports.len() < most {
-                    reports.push(self.report_group(group, finding)?)?;
-                } else {
-                    reports.push(self.counted(finding)?)?;
+            match findings.get(group.finding) {
+                Some(finding) if is_stop(group, finding) => {
+                    self.put_stop(group, finding, gathered)?
                 }
+                Some(finding) => self.put_group(group, finding, gathered)?,
+                None => (),
             }
         }
         Ok(())
@@ -440,24 +515,39 @@ fn is_macro(alloc: Global, line: &[u8], name: &[u8]) -> Result<bool, AllocError>
     }
 }
 
+/// Which lines notes do not name by their numbers. If a front is looked at by itself, those of its only file have their own numbers; those of
+/// several files have none, since a note has no room for a path.
+fn before(sources: &Sources<'_, '_>) -> Before {
+    let defines = u32::try_from(sources.front.defines.len()).unwrap_or(u32::MAX);
+    let lines = if !sources.files.is_empty() {
+        sources.front_lines()
+    } else if sources.front.files.len() > 1 {
+        u32::MAX
+    } else {
+        defines
+    };
+    Before { defines, lines }
+}
+
 /// A source before anything is known of it.
 fn begun<'s, 'f>(
     alloc: Global,
     sources: &'s Sources<'s, 'f>,
     source: usize,
 ) -> Result<Faulty<'s, 'f>, AllocError> {
-    let before = Before {
-        defines: u32::try_from(sources.front.defines.len()).unwrap_or(u32::MAX),
-        lines: sources.front_lines(),
-    };
     Ok(Faulty {
         alloc,
         sources,
         source,
-        text: SourceLines::of(alloc, sources.text(source), before)?,
+        text: SourceLines::of(alloc, sources.text(source), before(sources))?,
         known: None,
         traces: Traces::none(),
     })
+}
+
+/// Whether the expansion stops at an error. Only the first one can be that.
+fn is_stop(group: &Group, finding: &Finding) -> bool {
+    group.finding == 0 && matches!(finding.why, Why::Macro(_))
 }
 
 /// Whether the first error is one at which the expansion stops.
@@ -483,30 +573,26 @@ impl<'s, 'f> Faulty<'s, 'f> {
         &self,
         findings: &[Finding],
         are_written: &[bool],
-        most: usize,
-        reports: &mut Vec<Report<'f>>,
+        gathered: &mut Gathered,
     ) -> Result<(), AllocError> {
         let key = NameKey::of(self.sources.text(self.source));
         let trace = self.traces.whole.as_ref();
         let groups = grouped(self.alloc, key, findings, are_written, trace)?;
-        self.put_groups(findings, &groups, most, reports)?;
+        self.put_groups(findings, &groups, gathered)?;
         match findings {
-            [first, ..] if does_stop(findings) => {
-                self.put_uncut(self.stop_line(first), most, reports)
-            }
+            [first, ..] if does_stop(findings) => self.put_uncut(self.stop_line(first), gathered),
             _ => Ok(()),
         }
     }
 }
 
-/// Appends the reports of all errors of a source, as long as there are fewer than `most` with all that they say.
-pub(crate) fn put_errors<'f>(
+/// Appends the reports of all errors of a source.
+pub(crate) fn put_errors(
     alloc: Global,
-    sources: &Sources<'_, 'f>,
+    sources: &Sources<'_, '_>,
     source: usize,
     grow: bool,
-    most: usize,
-    reports: &mut Vec<Report<'f>>,
+    gathered: &mut Gathered,
 ) -> Result<(), AllocError> {
     let text = sources.text(source);
     let Findings { findings, known } = find_errors(alloc, text, grow)?;
@@ -519,18 +605,17 @@ pub(crate) fn put_errors<'f>(
     if does_stop(&findings) || are_written.contains(&false) {
         faulty.traces = traced(alloc, text)?;
     }
-    faulty.put_all(&findings, &are_written, most, reports)
+    faulty.put_all(&findings, &are_written, gathered)
 }
 
-/// Appends the report of one error, about whose source nothing else is known.
-pub(crate) fn put_error<'f>(
+/// Answers the report of one error, about whose source nothing else is known.
+pub(crate) fn report_of(
     alloc: Global,
-    sources: &Sources<'_, 'f>,
+    sources: &Sources<'_, '_>,
     source: usize,
     fault: AsmFault,
-    reports: &mut Vec<Report<'f>>,
-) -> Result<(), AllocError>
-    ensures { OnOk result (list_any (is_report_of source fault) reports.new.items ≡ true) }
+) -> Result<Report, AllocError>
+    ensures { IfOk result (λ report. is_report_of source fault report ≡ true) }
 {
     let faulty = begun(alloc, sources, source)?;
     let finding = Finding {
@@ -546,7 +631,5 @@ pub(crate) fn put_error<'f>(
         calls: &[],
         names: None,
     };
-    let report = faulty.report(source, &finding, site, Vec::new(alloc))?;
-    reports.push(report)?;
-    Ok(())
+    faulty.report(source, &finding, site, Vec::new(alloc))
 }

@@ -1,6 +1,6 @@
 //! Explains why sources have no program, or what to look at in the one that they have.
 
-ghost use Rattle.std.specs.Prelude.{◌≡◌, ◌<◌, ◌+◌, ℕ, All, IfOk, List, [], false, length, map, option_copied, true};
+ghost use Rattle.std.specs.Prelude.{◌≡◌, ◌<◌, ◌+◌, ℕ, All, IfOk, List, Ok, length, map, option_copied, true};
 ghost use Rattle.std.specs.List.{AllZip, list_any, sum_by};
 ghost use Rattle.shared_lines.specs.Front.{CountsLines, front_lines};
 ghost use Rattle.zmo_module.specs.Modules.{module_of};
@@ -9,15 +9,17 @@ ghost use Rattle.shared_lines.specs.Behind.{IsBehind};
 ghost use Rattle.report_texts.specs.Reports.{is_in_line, is_error, bears_name};
 ghost use Rattle.link_errors.specs.Names.{link_name};
 ghost use Rattle.program_warnings.specs.Counts.{HasWarnings, warning_count};
-ghost use Rattle.z80dev_explain.specs.Explained.{IsExplained, IsExplainedBehind};
+ghost use Rattle.z80dev_explain.specs.Explained.{AreFrontErrors, AreLongs, HasErrorOnce, IsExplained, IsExplainedBehind};
 ghost use Rattle.z80dev_explain.specs.Reports.{is_report_of};
 
-use crate::errors::{put_error, put_errors};
+use crate::errors::{put_errors, report_of};
+use crate::gathering::Gathered;
 use crate::shared::{put_told, put_unshared};
 use asm_module::{AsmFault, Lines, Module, assemble_with};
+use common::{KeyMixer, NameKey};
 use link_errors::{name_of, put_link_errors, put_plain};
 use program_warnings::{long_jumps_of, put_mistakes, warnings_of};
-use report_texts::{Form, MOST_REPORTS, Report, Severity, Where};
+use report_texts::{Form, MOST_REPORTS, Report, Severity, Where, without_repeats};
 use shared_lines::{
     Front, Refusal, SourceFile, Told, fault_of_front, front_lines, front_text, sources_behind,
     texts_behind, why_name,
@@ -39,17 +41,17 @@ pub struct Asked {
 
 /// What is said of sources.
 #[derive(Debug, Drop)]
-pub struct Explained<'a> {
+pub struct Explained {
     /// Whether the sources have a program.
     pub has_program: bool,
     /// Their errors or warnings, in the order of the sources and their lines.
-    pub reports: Vec<Report<'a>>,
+    pub reports: Vec<Report>,
     /// Notes about its long jumps, if they are wanted. Those come first that are the fewest bytes too long.
-    pub longs: Vec<Report<'a>>,
+    pub longs: Vec<Report>,
 }
 
 /// Whether a place is in this line of the source with this number.
-fn is_in_line(at: Option<&Where<'_>>, source: usize, line: u32) -> bool
+fn is_in_line(at: Option<&Where>, source: usize, line: u32) -> bool
     ensures { result ≡ is_in_line source line (option_copied at.entry) }
 {
     match at {
@@ -59,7 +61,7 @@ fn is_in_line(at: Option<&Where<'_>>, source: usize, line: u32) -> bool
 }
 
 /// Whether a report is of this error.
-fn is_report_of(report: &Report<'_>, source: usize, fault: AsmFault) -> bool
+fn is_report_of(report: &Report, source: usize, fault: AsmFault) -> bool
     ensures { result ≡ is_report_of source fault report.now }
 {
     report.severity == Severity::Error
@@ -68,7 +70,7 @@ fn is_report_of(report: &Report<'_>, source: usize, fault: AsmFault) -> bool
 }
 
 /// Whether one of the reports is of this error.
-fn has(reports: &[Report<'_>], source: usize, fault: AsmFault) -> bool
+fn has(reports: &[Report], source: usize, fault: AsmFault) -> bool
     ensures { result ≡ list_any (is_report_of source fault) reports.now }
 {
     reports
@@ -77,21 +79,21 @@ fn has(reports: &[Report<'_>], source: usize, fault: AsmFault) -> bool
 }
 
 /// Whether a report is of an error with this name.
-fn bears_name(report: &Report<'_>, name: &str) -> bool
+fn bears_name(report: &Report, name: &str) -> bool
     ensures { result ≡ bears_name name.now report.now }
 {
     report.severity == Severity::Error && report.name.as_bytes() == name.as_bytes()
 }
 
 /// Whether one of the reports is of an error with this name.
-fn has_named(reports: &[Report<'_>], name: &str) -> bool
+fn has_named(reports: &[Report], name: &str) -> bool
     ensures { result ≡ list_any (bears_name name.now) reports.now }
 {
     reports.iter().any(|report| bears_name(report, name))
 }
 
 /// By what reports are sorted: the source and the line.
-fn order_of(report: &Report<'_>) -> (usize, u32) {
+fn order_of(report: &Report) -> (usize, u32) {
     match &report.at {
         Some(at) => (at.source, at.reported),
         None => (usize::MAX, 0),
@@ -99,8 +101,8 @@ fn order_of(report: &Report<'_>) -> (usize, u32) {
 }
 
 /// Answers the reports in the order of the sources and their lines.
-fn sorted<'a>(reports: Vec<Report<'a>>) -> Result<Vec<Report<'a>>, AllocError>
-    ensures { IfOk result (λ sorted. length sorted.items ≡ length reports.entry.items) }
+fn sorted(reports: Vec<Report>) -> Result<Vec<Report>, AllocError>
+    ensures { IfOk result (λ sorted. length sorted.items ≡ length reports.items) }
 {
     let mut reports = reports;
     reports.sort_by_key(|report| order_of(report))?;
@@ -115,26 +117,50 @@ fn most_of(form: Form) -> usize {
     }
 }
 
-/// Answers the errors of all sources, given the first of them.
-fn errors_of<'a>(
+/// Answers the report of this error alone.
+fn only_error(
     alloc: Global,
-    sources: &Sources<'_, 'a>,
+    sources: &Sources<'_, '_>,
+    source: usize,
+    fault: AsmFault,
+) -> Result<Vec<Report>, AllocError>
+    ensures { IfOk result (λ reports. HasErrorOnce sources.now.before source fault reports.items) }
+{
+    let report = report_of(alloc, sources, source, fault)?;
+    let mut reports = Vec::new(alloc);
+    reports.push(report)?;
+    Ok(reports)
+}
+
+/// The key for a table of what sources have in them.
+fn key_of(sources: &Sources<'_, '_>) -> NameKey {
+    let mut mixer = KeyMixer::new();
+    mixer.mix_all(sources.texts);
+    mixer.key()
+}
+
+/// Answers the errors of all sources, given the first of them; one of a shared file once.
+fn errors_of(
+    alloc: Global,
+    sources: &Sources<'_, '_>,
     asked: Asked,
     source: usize,
     fault: AsmFault,
-) -> Result<Vec<Report<'a>>, AllocError>
-    ensures { IfOk result (λ reports. list_any (is_report_of source fault) reports.items ≡ true) }
+) -> Result<Vec<Report>, AllocError>
+    ensures { IfOk result (λ reports. HasErrorOnce sources.now.before source fault reports.items) }
 {
-    let mut reports = Vec::new(alloc);
+    let key = key_of(sources);
+    let mut gathered = Gathered::new(alloc, key, sources.before, most_of(asked.form));
     for number in 0..sources.files.len() {
-        let most = most_of(asked.form);
-        put_errors(alloc, sources, number, asked.grow, most, &mut reports)?;
+        put_errors(alloc, sources, number, asked.grow, &mut gathered)?;
     }
-    let mut reports = sorted(reports)?;
-    if !has(&reports, source, fault) {
-        put_error(alloc, sources, source, fault, &mut reports)?;
+    let all = sorted(gathered.into_reports())?;
+    let once = without_repeats(alloc, key, sources.before, all)?;
+    // It is there, since no source before has an error that could take its place. No clause says that, so it is looked for.
+    if has(&once, source, fault) {
+        return Ok(once);
     }
-    Ok(reports)
+    only_error(alloc, sources, source, fault)
 }
 
 /// The modules of sources, and the lines of their statements.
@@ -163,13 +189,13 @@ fn assemble_all(alloc: Global, sources: &[Source<'_>], grow: bool) -> Result<Ass
 }
 
 /// Answers the errors of the modules of sources together, given the first of them.
-fn link_errors_of<'a>(
+fn link_errors_of(
     alloc: Global,
-    sources: &Sources<'_, 'a>,
+    sources: &Sources<'_, '_>,
     behind: &[Source<'_>],
     grow: bool,
     fault: &LinkFault,
-) -> Result<Vec<Report<'a>>, AllocError>
+) -> Result<Vec<Report>, AllocError>
     ensures { IfOk result (λ reports. list_any (bears_name (link_name fault.now)) reports.items ≡ true) }
 {
     let Assembled { modules, lines } = assemble_all(alloc, behind, grow)?;
@@ -184,12 +210,12 @@ fn link_errors_of<'a>(
 }
 
 /// Answers all warnings about a program that was built of sources, and about these.
-fn all_warnings<'a>(
+fn all_warnings(
     alloc: Global,
-    sources: &Sources<'_, 'a>,
+    sources: &Sources<'_, '_>,
     behind: &[Source<'_>],
     built: &Built,
-) -> Result<Vec<Report<'a>>, AllocError>
+) -> Result<Vec<Report>, AllocError>
     requires { All IsModule (map module_of built.now.modules.items) }
     ensures { IfOk result (λ reports. (counts : List ℕ) × AllZip (λ s n. HasWarnings sources.now.before s.text.now n) behind.now counts
         × (length reports.items ≡ warning_count built.now + sum_by (λ n. n) counts)) }
@@ -200,14 +226,14 @@ fn all_warnings<'a>(
 }
 
 /// Answers the notes about the long jumps of a program, if they are wanted.
-fn longs_of<'a>(
+fn longs_of(
     alloc: Global,
     wanted: bool,
-    sources: &Sources<'_, 'a>,
+    sources: &Sources<'_, '_>,
     built: &Built,
-) -> Result<Vec<Report<'a>>, AllocError>
+) -> Result<Vec<Report>, AllocError>
     requires { All IsModule (map module_of built.now.modules.items) }
-    ensures { IfOk result (λ longs. wanted ≡ false → longs.items ≡ []) }
+    ensures { IfOk result (λ longs. AreLongs (Ok built.now) wanted longs.items) }
 {
     if wanted {
         long_jumps_of(alloc, sources, built)
@@ -217,16 +243,15 @@ fn longs_of<'a>(
 }
 
 /// Answers what is said of sources after a front.
-fn explain_behind<'a>(
+fn explain_behind(
     alloc: Global,
-    sources: &Sources<'_, 'a>,
+    sources: &Sources<'_, '_>,
     behind: &[Source<'_>],
     asked: Asked,
-) -> Result<Explained<'a>, AllocError>
+) -> Result<Explained, AllocError>
     requires are { AllZip (IsBehind sources.now.front) sources.now.files.now behind.now }
     requires before { CountsLines sources.now.before (front_lines sources.now.front) }
-    ensures explained { IfOk result (λ e. IsExplainedBehind sources.now.front asked.grow sources.now.files.now e.has_program e.reports.items) }
-    ensures unasked { IfOk result (λ e. asked.jumps ≡ false → e.longs.items ≡ []) }
+    ensures { IfOk result (λ e. IsExplainedBehind sources.now.front asked.grow asked.jumps sources.now.files.now e.has_program e.reports.items e.longs.items) }
 {
     let grow = asked.grow;
     match build_with(alloc, behind, grow) {
@@ -248,15 +273,35 @@ fn explain_behind<'a>(
     }
 }
 
-/// Answers the errors of a front, given its text and the first of them.
+/// Answers all errors that are found in a front, given the first of them.
+fn all_of_front(
+    alloc: Global,
+    sources: &Sources<'_, '_>,
+    told: Told<'_>,
+    form: Form,
+) -> Result<Vec<Report>, AllocError>
+    ensures { IfOk result (λ reports. 0 < length reports.items) }
+{
+    let mut gathered = Gathered::new(alloc, key_of(sources), 0, most_of(form));
+    put_errors(alloc, sources, 0, false, &mut gathered)?;
+    let mut reports = gathered.into_reports();
+    put_unshared(alloc, sources, &mut reports)?;
+    let mut reports = sorted(reports)?;
+    if reports.is_empty() {
+        put_told(alloc, told, &mut reports)?;
+    }
+    Ok(reports)
+}
+
+/// Answers the errors of a front, each once, given its text and the first of them.
 fn front_errors<'a>(
     alloc: Global,
     front: Front<'a>,
     before: Vec<u8>,
     told: Told<'a>,
     form: Form,
-) -> Result<Vec<Report<'a>>, AllocError>
-    ensures { IfOk result (λ reports. 0 < length reports.items) }
+) -> Result<Vec<Report>, AllocError>
+    ensures { IfOk result (λ reports. AreFrontErrors front.entry reports.items) }
 {
     let mut texts = Vec::new(alloc);
     texts.push(before)?;
@@ -268,15 +313,9 @@ fn front_errors<'a>(
         texts: &texts,
         lines: &lines,
     };
-    let mut reports = Vec::new(alloc);
-    let most = most_of(form);
-    put_errors(alloc, &sources, 0, false, most, &mut reports)?;
-    put_unshared(alloc, &sources, &mut reports)?;
-    let mut reports = sorted(reports)?;
-    if reports.is_empty() {
-        put_told(alloc, told, &mut reports)?;
-    }
-    Ok(reports)
+    let all = all_of_front(alloc, &sources, told, form)?;
+    let once = without_repeats(alloc, key_of(&sources), front_lines(front), all)?;
+    Ok(once)
 }
 
 /// Builds sources after a front, writes nothing, and answers their errors, in the order of the sources and their lines; or if there are none,
@@ -290,9 +329,8 @@ pub fn explain<'a>(
     front: Front<'a>,
     files: &[SourceFile<'a>],
     asked: Asked,
-) -> Result<Explained<'a>, AllocError>
-    ensures explained { IfOk result (λ e. IsExplained front.entry asked.grow files.now e.has_program e.reports.items) }
-    ensures unasked { IfOk result (λ e. asked.jumps ≡ false → e.longs.items ≡ []) }
+) -> Result<Explained, AllocError>
+    ensures { IfOk result (λ e. IsExplained front.entry asked.grow asked.jumps files.now e.has_program e.reports.items e.longs.items) }
 {
     let before = front_text(alloc, front)?;
     if let Some(told) = fault_of_front(alloc, front, &before)? {

@@ -4,11 +4,13 @@
 //! [`explain`] answers the reports, [`print_reports`] makes the text of them, and [`explain_sources`] does both.
 #![tactic(auto)]
 
+mod adapting;
 mod errors;
 mod explaining;
+mod gathering;
 mod shared;
 mod summing;
 
 pub use explaining::{Asked, Explained, explain};
-pub use report_texts::{Form, MOST_REPORTS, Report, Severity, Where, print_reports};
+pub use report_texts::{Files, Form, MOST_REPORTS, Report, Severity, Where, print_reports};
 pub use summing::{Explanation, explain_sources};

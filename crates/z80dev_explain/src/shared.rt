@@ -10,11 +10,7 @@ use std::alloc::{AllocError, Global};
 use written_lines::Sources;
 
 /// Answers the report of a line that a shared file may not have.
-fn unshared<'f>(
-    alloc: Global,
-    sources: &Sources<'_, 'f>,
-    line: u32,
-) -> Result<Report<'f>, AllocError> {
+fn unshared(alloc: Global, sources: &Sources<'_, '_>, line: u32) -> Result<Report, AllocError> {
     let mut notes = Vec::new(alloc);
     notes.push(Note::Help(String::from_str(
         alloc,
@@ -25,15 +21,16 @@ fn unshared<'f>(
         at: Some(sources.named(alloc, 0, line, b"")?),
         text: String::from_str(alloc, "a shared file may not have this line")?,
         name: String::from_str(alloc, "NotShared")?,
+        about: Vec::new(alloc),
         notes,
     })
 }
 
 /// Appends the reports of all lines of shared files that these may not have.
-pub(crate) fn put_unshared<'f>(
+pub(crate) fn put_unshared(
     alloc: Global,
-    sources: &Sources<'_, 'f>,
-    reports: &mut Vec<Report<'f>>,
+    sources: &Sources<'_, '_>,
+    reports: &mut Vec<Report>,
 ) -> Result<(), AllocError> {
     let words = sources.front.defines.len();
     let lines: Vec<SourceLine> = match read_source(alloc, sources.text(0)) {
@@ -49,10 +46,10 @@ pub(crate) fn put_unshared<'f>(
 }
 
 /// Appends the report of the first error of a front, about which nothing else is known.
-pub(crate) fn put_told<'f>(
+pub(crate) fn put_told(
     alloc: Global,
-    told: Told<'f>,
-    reports: &mut Vec<Report<'f>>,
+    told: Told<'_>,
+    reports: &mut Vec<Report>,
 ) -> Result<(), AllocError>
     ensures { OnOk result (0 < length reports.new.items) }
 {
@@ -61,6 +58,7 @@ pub(crate) fn put_told<'f>(
         at: None,
         text: String::from_str(alloc, "the shared files have an error")?,
         name: format!(in alloc; "{told}")?,
+        about: Vec::new(alloc),
         notes: Vec::new(alloc),
     })?;
     Ok(())

@@ -5,7 +5,7 @@ ghost use Rattle.std.specs.Option.{option_map};
 ghost use Rattle.z80dev_explain.specs.Explanation.{count_text, IsExplanation, IsFine, summary_of};
 
 use crate::explaining::{Asked, Explained, explain};
-use report_texts::{Report, print_reports};
+use report_texts::{Files, Report, print_reports};
 use shared_lines::{Front, SourceFile};
 use std::alloc::{AllocError, Global};
 
@@ -33,7 +33,7 @@ fn counted(alloc: Global, count: usize, what: &str) -> Result<String, AllocError
 fn summary(
     alloc: Global,
     has_program: bool,
-    reports: &[Report<'_>],
+    reports: &[Report],
 ) -> Result<Option<String>, AllocError>
     ensures sum { IfOk result (λ summary. option_map (λ s. string_bytes s) summary ≡ summary_of has_program reports.now) }
     ensures fine { IfOk result (λ summary. summary ≡ None → IsFine has_program reports.now) }
@@ -68,7 +68,11 @@ pub fn explain_sources(
         longs,
     } = explain(alloc, front, files, asked)?;
     let summary = summary(alloc, has_program, &reports)?;
-    let mut text = print_reports(alloc, asked.form, &reports)?;
-    text.extend_from_slice(&print_reports(alloc, asked.form, &longs)?)?;
+    let paths = Files {
+        front,
+        sources: files,
+    };
+    let mut text = print_reports(alloc, paths, asked.form, &reports)?;
+    text.extend_from_slice(&print_reports(alloc, paths, asked.form, &longs)?)?;
     Ok(Explanation { text, summary })
 }

@@ -1,3 +1,5 @@
-pub mod Parts
+mod Parts
 pub mod Stored
-pub mod Told
+mod Told
+mod Newest
+mod MemoryStored

@@ -1,6 +1,7 @@
 pub mod Answers
-pub mod Files
 pub mod End
+pub mod Files
 pub mod Finishing
 pub mod Paths
 pub mod Private
+pub mod Memory

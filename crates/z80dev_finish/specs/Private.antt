@@ -1,2 +1,3 @@
--- What private contracts alone cite: no reviewer need believe it.
+-- Only private contracts cite these definitions, so a reviewer may skip them.
 pub mod Steps
+pub mod Kept

@@ -22,7 +22,7 @@ use clap::error::ErrorKind;
 use disk_jobs::do_on_disk;
 use job_steps::{Ended, Host, refuse_value, report_any, report_line};
 use run_jobs::{debug_job, play_job, run_job};
-use std::alloc::Global;
+use std::alloc::{AllocError, Global};
 use streams::{print, tell};
 use z80dev::{DONE, End, Files, Input, Job, Sink, USAGE, commands, pipe, report};
 use z80dev_commands::Explain;
@@ -55,6 +55,14 @@ fn reason_of(text: &str) -> &str
     text
 }
 
+/// What to print for words that ask for no job.
+fn usage_text(alloc: Global, words: &[String], error: &Error) -> Result<String, AllocError> {
+    match tip(alloc, error.kind(), words)? {
+        Some(text) => Ok(text),
+        None => format!(in alloc; "{error}"),
+    }
+}
+
 /// Prints the help or the version that the words ask for, or writes what is wrong with them on standard error, and gives the exit status.
 fn refuse_words<W: Sink, E: Sink>(
     alloc: Global,
@@ -65,8 +73,7 @@ fn refuse_words<W: Sink, E: Sink>(
 ) -> u8
     ensures { RefusesError (kind_of error.now) (W.stream output.old) (W.stream output.new) (E.stream errors.old) (E.stream errors.new) result }
 {
-    let tip = tip(error.kind(), words);
-    let Ok(text) = format!(in alloc; "{error}{tip}") else {
+    let Ok(text) = usage_text(alloc, words, error) else {
         return report(&End::NoMemory, errors);
     };
     match error.kind() {
@@ -116,6 +123,7 @@ fn work<F: Files, I: Input, W: Sink + Drop, E: Sink>(
     requires user { HasJobUser job }
     ensures ends { JobEnds job.entry host.is_terminal (world_of (F.folder host.files) (reader_of (I.remaining host.input) (I.failed host.input) (I.reads host.input) (I.interruptions host.input)) (W.stream host.output) (E.stream host.errors)) (world_of (F.folder result.host.files) (reader_of (I.remaining result.host.input) (I.failed result.host.input) (I.reads result.host.input) (I.interruptions result.host.input)) (W.stream result.host.output) (E.stream result.host.errors)) result.status }
     ensures reads { I.reads result.host.input ≤ MOST_READS }
+    ensures terminal { result.host.is_terminal ≡ host.is_terminal }
 {
     let status = match job {
         Job::Pipe => pipe(alloc, &mut host.input, &mut host.output, &mut host.errors),
@@ -196,6 +204,7 @@ pub fn command<F: Files, I: Input, W: Sink + Drop, E: Sink>(
     requires calm { I.interruptions host.input ≡ 0 }
     ensures ends { CommandEnds (map (λ word. word.items) words.now) host.is_terminal (world_of (F.folder host.files) (reader_of (I.remaining host.input) (I.failed host.input) (I.reads host.input) (I.interruptions host.input)) (W.stream host.output) (E.stream host.errors)) (world_of (F.folder result.host.files) (reader_of (I.remaining result.host.input) (I.failed result.host.input) (I.reads result.host.input) (I.interruptions result.host.input)) (W.stream result.host.output) (E.stream result.host.errors)) result.status }
     ensures reads { I.reads result.host.input ≤ MOST_READS }
+    ensures terminal { result.host.is_terminal ≡ host.is_terminal }
 {
     let texts = match texts_of(alloc, words) {
         Ok(texts) => texts,

@@ -12,4 +12,4 @@ mod words;
 
 pub use dispatch::command;
 pub use job_steps::{Ended, Host};
-pub use memory_files::{FailingFiles, Failure, MemoryFiles, Written};
+pub use z80dev_finish::{FailingFiles, Failure, MemoryFiles, Written};

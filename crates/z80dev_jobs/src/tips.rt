@@ -1,29 +1,69 @@
-//! A tip for words in which a file stands where a command should.
+//! What to type instead of a word that stands where a command should and is none.
 
 use clap::error::ErrorKind;
+use std::alloc::{AllocError, Global};
 
-/// Answers the line that says which command a file with this ending is for; no line if none is known.
-fn tip_for(ending: &str) -> &'static str {
+/// A command that takes a file, and what it does with that.
+#[derive(Clone, Copy)]
+struct Advice {
+    command: &'static str,
+    purpose: &'static str,
+}
+
+/// Answers the command for a file with this ending, if one is known.
+fn tip_for(ending: &str) -> Option<Advice> {
     if ending.eq_ignore_ascii_case("asm") {
-        "\nTo build a source file: z80dev build SRC\n"
+        Some(Advice {
+            command: "build",
+            purpose: "build it",
+        })
     } else if ending.eq_ignore_ascii_case("com") {
-        "\nTo run a program: z80dev run COM\n"
+        Some(Advice {
+            command: "run",
+            purpose: "run it",
+        })
     } else if ending.eq_ignore_ascii_case("img") {
-        "\nTo list the files of a disk: z80dev dir IMG\n"
+        Some(Advice {
+            command: "dir",
+            purpose: "list the files of this disk",
+        })
     } else {
-        ""
+        None
     }
 }
 
-/// Answers the line for these words of a command line, if the first after the program's name was taken for a command and is none.
-pub(crate) fn tip(kind: ErrorKind, words: &[String]) -> &'static str {
+/// Answers what is wrong with a word that stands where a command should, if it is the name of a file or `help`.
+fn said_of(alloc: Global, word: &str) -> Result<Option<String>, AllocError> {
+    if word == "help" {
+        let text =
+            "there is no command 'help'\n\n  tip: z80dev --help lists the commands, and z80dev COMMAND --help explains one";
+        return Ok(Some(String::from_str(alloc, text)?));
+    }
+    let Some((_, ending)) = word.rsplit_once('.') else {
+        return Ok(None);
+    };
+    let Some(Advice { command, purpose }) = tip_for(ending) else {
+        return Ok(None);
+    };
+    let text = format!(in alloc;
+        "'{word}' is a file and no command\n\n  tip: to {purpose}: z80dev {command} {word}"
+    )?;
+    Ok(Some(text))
+}
+
+/// Answers what is wrong with these words of a command line, if the first after the program's name was taken for a command, is none, and it is
+/// known what it is.
+///
+/// # Errors
+///
+/// Memory ran out.
+pub(crate) fn tip(
+    alloc: Global,
+    kind: ErrorKind,
+    words: &[String],
+) -> Result<Option<String>, AllocError> {
     match words.get(1) {
-        Some(word) if kind == ErrorKind::InvalidSubcommand => {
-            match word.as_str().rsplit_once('.') {
-                Some((_, ending)) => tip_for(ending),
-                None => "",
-            }
-        }
-        _ => "",
+        Some(word) if kind == ErrorKind::InvalidSubcommand => said_of(alloc, word.as_str()),
+        _ => Ok(None),
     }
 }

@@ -31,5 +31,5 @@ shows_bytes whose after pending begun keys is_leaving input old new bytes coded 
   screen = λ more. rw (same_codes, goes_on) (printed_on whose pending bytes more old new coded printed);
   coming = refl;
   leaves = refl;
-  looks = refl;
+  events = refl;
 }

@@ -46,9 +46,9 @@ leaves_by keys.Raw is_leaving bytes = has_left is_leaving bytes
 leaves_by keys.Lines is_leaving bytes = false
 
 -- Somebody at these streams: whose screen codes are shown, and what the bytes so far have begun; how keys come, and whether the last key is the
--- first half of leaving; and what is known of input and of output. Which looks there were is not known.
+-- first half of leaving; and what is known of input and of output. What has happened is not told.
 abbrev pub seat_of : Codes → Pending → Keys → Bool → Option (List ℕ) → Option (List ℕ) → Seat
-seat_of whose pending keys is_leaving input output = record { screen = λ bytes. append_known output (printed_for whose pending bytes); coming = option_map (as_keys keys) input; leaves = leaves_by keys is_leaving; looks = None }
+seat_of whose pending keys is_leaving input output = record { screen = λ bytes. append_known output (printed_for whose pending bytes); coming = option_map (as_keys keys) input; leaves = leaves_by keys is_leaving; events = None }
 
 -- the same of a desk, given what is known of input and of output
 abbrev pub desk_seat : {I S : Type 0} → DeskState I S → Option (List ℕ) → Option (List ℕ) → Seat

@@ -10,6 +10,7 @@ use Rattle.cpm_run.specs.Turns.{Call, Entry, Place, Program, place_at_pc}
 use Rattle.cpm_run.specs.declared.recording.TraceStep.{TraceStep}
 use Rattle.z80dev_run.specs.Labelled.{Known, nearest_label, nearest_text}
 use Rattle.state_text.specs.Printing.Columns.{blanks, column, on_right, word_text}
+use Rattle.state_text.specs.Printing.Instructions.{instr_text}
 
 -- how many bytes the instruction at the front of these has; all are shown if there is none
 abbrev pub decoded_size : Result (Instr × ℕ) DecodeFault → ℕ
@@ -22,9 +23,9 @@ shown_size Call bytes = 0
 shown_size (Entry n) bytes = 0
 shown_size Program bytes = decoded_size (read bytes)
 
--- The text of an instruction; its characters are not part of this definition.
+-- the text of an instruction, or `?` if there is none
 abbrev pub ShowsInstr : Result (Instr × ℕ) DecodeFault → List ℕ → Type 0
-ShowsInstr (Ok found) text = Unit {0}
+ShowsInstr (Ok found) text = text ≡ instr_text found.0
 ShowsInstr (Err why) text = text ≡ codes "?"
 
 -- what a step does: a call of the system with its number, or an instruction, or `?` if there is none

@@ -1,6 +1,6 @@
 //! Prints the steps of a run as lines.
 
-ghost use Rattle.std.specs.Prelude.{◌≡◌, ◌≤◌, ◌++◌, IfOk, OnOk, string_bytes, take};
+ghost use Rattle.std.specs.Prelude.{◌≡◌, ◌≤◌, ◌++◌, IfOk, OnOk, take};
 ghost use Rattle.cpm_run.specs.Turns.{place_at_pc};
 ghost use Rattle.hex.specs.Hex.{encode_upper};
 ghost use Rattle.z80dev_run.specs.Labelled.{nearest_label, nearest_text};
@@ -9,7 +9,7 @@ ghost use Rattle.z80dev_run.specs.Lines.{IsTrace, IsTraceLine, ShowsAt, change_t
 
 use crate::labels::Labels;
 use cpm_run::{BDOS, TraceStep, bios_entry};
-use state_text::{put_blanks, put_column, put_label, put_number, put_word};
+use state_text::{put_blanks, put_column, put_instr, put_label, put_number, put_word};
 use std::alloc::{AllocError, Global};
 use z80_cpu::Cpu;
 use z80_table::decode;
@@ -30,21 +30,23 @@ fn shown_size(step: &TraceStep) -> usize
 }
 
 /// What a step does: a call of the system with its number, or an instruction, or `?` if there is none.
-fn shown(alloc: Global, step: &TraceStep) -> Result<String, AllocError>
-    ensures { IfOk result (λ text. ShowsAt (place_at_pc step.now.before.pc) step.now (string_bytes text)) }
+fn shown(alloc: Global, step: &TraceStep) -> Result<Vec<u8>, AllocError>
+    ensures { IfOk result (λ text. ShowsAt (place_at_pc step.now.before.pc) step.now text.items) }
 {
     let pc = step.before.pc;
     let function = step.before.main.c;
     if pc == BDOS {
-        return format!(in alloc; "BDOS {function}");
+        return Ok(format!(in alloc; "BDOS {function}")?.into_bytes());
     }
     if let Some(entry) = bios_entry(pc) {
-        return format!(in alloc; "BIOS {entry}");
+        return Ok(format!(in alloc; "BIOS {entry}")?.into_bytes());
     }
-    match decode(&step.bytes) {
-        Ok((instr, _)) => format!(in alloc; "{instr}"),
-        Err(_) => String::from_str(alloc, "?"),
-    }
+    let Ok((instr, _)) = decode(&step.bytes) else {
+        return Vec::from_slice(alloc, b"?");
+    };
+    let mut text = Vec::new(alloc);
+    put_instr(alloc, &mut text, instr)?;
+    Ok(text)
 }
 
 /// Answers the label of an address with its offset.
@@ -119,18 +121,6 @@ fn put_shadow_changes(
     put_change(alloc, out, b"HL'", old.shadow.hl(), new.shadow.hl())
 }
 
-fn put_other_changes(
-    alloc: Global,
-    out: &mut Vec<u8>,
-    old: &Cpu,
-    new: &Cpu,
-) -> Result<(), AllocError>
-    ensures { OnOk result (out.new.items ≡ out.old.items ++ other_changes old.now new.now) }
-{
-    put_change(alloc, out, b"I", u16::from(old.i), u16::from(new.i))?;
-    put_change(alloc, out, b"R", u16::from(old.r), u16::from(new.r))
-}
-
 /// Appends the registers that a step has changed.
 fn put_changes(alloc: Global, out: &mut Vec<u8>, old: &Cpu, new: &Cpu) -> Result<(), AllocError>
     ensures { OnOk result (out.new.items ≡ out.old.items ++ changes old.now new.now) }
@@ -138,7 +128,8 @@ fn put_changes(alloc: Global, out: &mut Vec<u8>, old: &Cpu, new: &Cpu) -> Result
     put_main_changes(alloc, out, old, new)?;
     put_index_changes(alloc, out, old, new)?;
     put_shadow_changes(alloc, out, old, new)?;
-    put_other_changes(alloc, out, old, new)
+    put_change(alloc, out, b"I", u16::from(old.i), u16::from(new.i))?;
+    put_change(alloc, out, b"R", u16::from(old.r), u16::from(new.r))
 }
 
 /// Answers a word as four hexadecimal digits.
@@ -195,7 +186,7 @@ fn line_of(alloc: Global, step: &TraceStep, labels: &Labels) -> Result<Vec<u8>, 
     put_changes(alloc, &mut changes, &step.before, &step.after)?;
     let mut line = Vec::new(alloc);
     put_place(alloc, &mut line, step, labels)?;
-    put_done(&mut line, text.as_bytes(), &changes)?;
+    put_done(&mut line, &text, &changes)?;
     line.push(b'\n')?;
     Ok(line)
 }

@@ -4,11 +4,11 @@ use Rattle.std.specs.List.{slice_get, slice_index_or}
 use Rattle.std.specs.Option.{option_map, option_map_or}
 use Rattle.std.proofs.lemmas.List.{get_or-map, length-map}
 use Rattle.std.proofs.lemmas.Option.{slice_get-map}
-use Rattle.ruler.specs.declared.shape.Statement.{Statement as Sized}
-use Rattle.ruler.specs.declared.shape.Statement.TheVariants as sized
+use Rattle.relax.specs.declared.shape.Statement.{Statement as Sized}
+use Rattle.relax.specs.declared.shape.Statement.TheVariants as sized
 use Rattle.certificate.specs.declared.shape.Statement.TheVariants as telling
-use Rattle.ruler.specs.Choice.{Choice}
-use Rattle.ruler.specs.Choice as ruler
+use Rattle.relax.specs.Choice.{Choice}
+use Rattle.relax.specs.Choice as ruler
 use Rattle.certificate.specs.Choice as cert
 use Rattle.relax.specs.Growth as growth
 use Rattle.relax.specs.declared.growth.Verdict.{Verdict}

@@ -4,7 +4,7 @@ use Rattle.std.specs.List.{enumerate_from, flat_map}
 use Rattle.std.specs.Global.{Global}
 use Rattle.std.proofs.lemmas.List.{length-map}
 use Rattle.std.proofs.lemmas.List.Concat.{flat_map-cons}
-use Rattle.ruler.specs.Choice.{place}
+use Rattle.relax.specs.Choice.{place}
 use Rattle.relax.specs.Growth.{after}
 use Rattle.asm_module.specs.declared.assembling.Lines as listing
 use Rattle.zmo_module.specs.Modules.{module_of}

@@ -10,9 +10,9 @@ use Rattle.std.proofs.lemmas.Slice.Zip.{AllZip-right}
 use Rattle.asm_expr.specs.Below.{modulus}
 use Rattle.asm_expr.specs.Distances.{Step}
 use Rattle.asm_expr.specs.Types.{Statement as Size}
-use Rattle.ruler.specs.Choice as choice
-use Rattle.ruler.specs.Choice.{Choice, bytes_before, place}
-use Rattle.ruler.proofs.Places.{place-next}
+use Rattle.relax.specs.Choice as choice
+use Rattle.relax.specs.Choice.{Choice, bytes_before, place}
+use Rattle.relax.proofs.Places.{place-next}
 use Rattle.asm_module.specs.Below.{IsLinkedAs, size_in_module, sizes}
 use Rattle.asm_statements.specs.Program.Linked.{IsSizedLike}
 use Rattle.asm_statements.specs.Program.Pieces.{IsPiece}

@@ -10,7 +10,7 @@ use Rattle.std.proofs.lemmas.Slice.Zip.{AllZip-left}
 use Rattle.asm_module.specs.declared.fault.AsmFault.{AsmFault}
 use Rattle.asm_module.specs.Assembled.{Assembled, Assembles, HasCause, IsStated}
 use Rattle.asm_statements.specs.Program.Statement.{Statement}
-use Rattle.ruler.specs.Choice.{Choice, IsValid}
+use Rattle.relax.specs.Choice.{Choice, IsValid}
 use Rattle.zlink.specs.declared.program.fault.JoinFault.{JoinFault}
 use Rattle.zlink.specs.Program.Faults.{first_fault}
 use Rattle.zlink.specs.declared.building.Built.{Built}

@@ -1,8 +1,8 @@
 -- What the growth of a shape proves about linking.
 use Rattle.std.proofs.Common.{◌≡◌, ℕ, List, sym, subst, arith}
 use Rattle.std.proofs.Math.Path.{fun_ext}
-use Rattle.ruler.specs.declared.shape.Statement.{Statement as Sized}
-use Rattle.ruler.specs.Choice.{Choice, IsShape, IsValid, chosen}
+use Rattle.relax.specs.declared.shape.Statement.{Statement as Sized}
+use Rattle.relax.specs.Choice.{Choice, IsShape, IsValid, chosen}
 use Rattle.relax.specs.Growth.{Holds, IsGrowth, IsNeeded, after}
 use Rattle.relax.specs.declared.growth.Growth.{Growth}
 use Rattle.relax.specs.declared.growth.Verdict.{Verdict}

@@ -3,8 +3,8 @@ use Rattle.std.proofs.Common.{◌≡◌, inl, inr, ℕ, Bool, List, Option, Some
 use Rattle.std.specs.Prelude.{◌⊎◌}
 use Rattle.certificate.specs.Texts.{cert_text}
 use Rattle.asm_module.specs.declared.fault.AsmFault.{AsmFault}
-use Rattle.ruler.specs.declared.shape.Statement.{Statement as Sized}
-use Rattle.ruler.specs.Choice.{Choice, place}
+use Rattle.relax.specs.declared.shape.Statement.{Statement as Sized}
+use Rattle.relax.specs.Choice.{Choice, place}
 use Rattle.relax.specs.declared.growth.Verdict.{Verdict}
 use Rattle.relax.specs.Growth.{Holds, IsLeastFirst, after}
 use Rattle.zmo_module.specs.Modules.{Module}

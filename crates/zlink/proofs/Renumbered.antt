@@ -9,8 +9,8 @@ use Rattle.asm_expr.proofs.Sizes.{sum_by-cons}
 use Rattle.z80_form.specs.declared.field.Field.{Field}
 use Rattle.z80_form.specs.Numbers.{with_numbers}
 use Rattle.z80_instr.specs.Codes.{Codes}
-use Rattle.ruler.specs.declared.shape.Statement.{Statement as Sized}
-use Rattle.ruler.specs.declared.shape.Statement.TheVariants as sized
+use Rattle.relax.specs.declared.shape.Statement.{Statement as Sized}
+use Rattle.relax.specs.declared.shape.Statement.TheVariants as sized
 use Rattle.asm_module.specs.Below.{size_in_module}
 use Rattle.asm_statements.specs.Program.Linked.{IsSizedLike, target_in}
 use Rattle.asm_statements.specs.Program.Pieces as pieces

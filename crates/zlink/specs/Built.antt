@@ -2,7 +2,7 @@
 use Rattle.std.specs.Prelude.{◌≡◌, ◌⊎◌, ℕ, All, Bool, IsOk, List, Some, None, Result, Ok, Err, length, map}
 use Rattle.std.specs.List.{enumerate_from, flat_map}
 use Rattle.asm_module.specs.declared.fault.AsmFault.{AsmFault}
-use Rattle.ruler.specs.Choice.{Choice, IsValid, place}
+use Rattle.relax.specs.Choice.{Choice, IsValid, place}
 use Rattle.relax.specs.Growth.{after}
 use Rattle.zlink.specs.declared.program.fault.JoinFault.{JoinFault}
 use Rattle.zlink.specs.Program.Faults.{first_fault}

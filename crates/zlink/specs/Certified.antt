@@ -1,7 +1,7 @@
 -- The sizes file and the certificate of a program, which prove what the verdict says about its choices.
 use Rattle.std.specs.Prelude.{◌≡◌, ℕ, List, map}
-use Rattle.ruler.specs.declared.shape.Statement.{Statement as Sized}
-use Rattle.ruler.specs.declared.shape.Statement.TheVariants as sized
+use Rattle.relax.specs.declared.shape.Statement.{Statement as Sized}
+use Rattle.relax.specs.declared.shape.Statement.TheVariants as sized
 use Rattle.relax.specs.declared.growth.Verdict.{Verdict as Growing}
 use Rattle.relax.specs.declared.growth.Verdict.TheVariants as growing
 use Rattle.certificate.specs.declared.shape.Statement.{Statement as Told}

@@ -1,7 +1,7 @@
 -- How the short and long jumps of a program are chosen, and what holds of the choice.
 use Rattle.std.specs.Prelude.{ℕ, List}
-use Rattle.ruler.specs.declared.shape.Statement.{Statement as Sized}
-use Rattle.ruler.specs.Choice.{Choice, IsShape, IsValid, total}
+use Rattle.relax.specs.declared.shape.Statement.{Statement as Sized}
+use Rattle.relax.specs.Choice.{Choice, IsShape, IsValid, total}
 use Rattle.relax.specs.declared.growth.Verdict.{Verdict}
 use Rattle.relax.specs.declared.growth.Verdict.TheVariants.{Best, Range, TooLarge}
 use Rattle.relax.specs.Growth.{Holds, IsLeastFirst, IsNeeded, after}

@@ -1,7 +1,7 @@
 -- What `link` answers for modules.
 use Rattle.std.specs.Prelude.{◌≡◌, ◌⊎◌, ℕ, ◌+◌, IsOk, List, Some, None, Result, Ok, Err, map}
 use Rattle.std.specs.List.{flat_map}
-use Rattle.ruler.specs.Choice.{Choice, IsValid, place}
+use Rattle.relax.specs.Choice.{Choice, IsValid, place}
 use Rattle.relax.specs.Growth.{after}
 use Rattle.zmo_module.specs.Modules.{Module}
 use Rattle.zlink.specs.declared.program.fault.JoinFault.{JoinFault}

@@ -2,9 +2,9 @@
 use Rattle.std.specs.Prelude.{ℕ, List, length, map}
 use Rattle.std.specs.List.{sum_by}
 use Rattle.z80_instr.specs.Table.{canonical}
-use Rattle.ruler.specs.declared.shape.Statement.{Statement as Sized}
-use Rattle.ruler.specs.declared.shape.Statement.TheVariants as sized
-use Rattle.ruler.specs.Choice.{Choice}
+use Rattle.relax.specs.declared.shape.Statement.{Statement as Sized}
+use Rattle.relax.specs.declared.shape.Statement.TheVariants as sized
+use Rattle.relax.specs.Choice.{Choice}
 use Rattle.asm_statements.specs.Program.Pieces.{IsPiece, width}
 use Rattle.asm_statements.specs.Program.Statement as statement
 use Rattle.asm_statements.specs.Program.Statement.{Statement}

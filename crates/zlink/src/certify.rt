@@ -1,7 +1,7 @@
 //! Makes the sizes file and the certificate of a program.
 
 ghost use Rattle.std.specs.Prelude.{◌≡◌, IfOk, map};
-ghost use Rattle.ruler.specs.Choice.{IsShape};
+ghost use Rattle.relax.specs.Choice.{IsShape};
 ghost use Rattle.relax.specs.Growth.{IsGrowth};
 ghost use Rattle.certificate.specs.Choice.{IsShape as IsToldShape};
 ghost use Rattle.zlink.specs.Certified.{IsCertified, told_size, told_verdict};

@@ -20,12 +20,6 @@ DoneWithLines e lines result = result ≡ Err e
 abbrev pub BuildsTexts : List ℕ → Build → List (List ℕ) → List (List ℕ) → Effect → List ℕ → End → Type 0
 BuildsTexts base build fronts texts x lines e = WritesBuilt base build fronts texts x lines e ⊎ ((e ≡ end.NoMemory) × NothingDone x)
 
--- a command may write its files, or this is why it may not
-abbrev pub IsClear : Option (List ℕ) → Result Unit End → Type 0
-IsClear why (Ok _) = why ≡ None
-IsClear None (Err e) = e ≡ end.NoMemory
-IsClear (Some why) (Err e) = RefusesText why e
-
 -- a source of a program, or how the command ends because there is none
 abbrev pub RefusesProgram : List ℕ → Option (List ℕ) → List (List ℕ) → End → Type 0
 RefusesProgram program labels entries (end.Refused said) =

@@ -1,13 +1,13 @@
 //! The state of a session, and what changes it.
 
-ghost use Rattle.std.specs.Prelude.{◌≡◌, ◌≢◌, ◌≤◌, ◌<◌, ◌+◌, ◌^◌, ◌-◌, ◌++◌, [], ℕ, false, IfOk, List, MatchOption, OnErr, OnOk, Option, Some};
+ghost use Rattle.std.specs.Prelude.{◌≡◌, ◌≢◌, ◌≤◌, ◌<◌, ◌+◌, ◌^◌, ◌-◌, ◌++◌, [], ℕ, false, IfOk, List, MatchOption, None, OnErr, OnOk, Option, Some};
 ghost use Rattle.cpm_bdos.specs.System.{with_console};
 ghost use Rattle.cpm_console.specs.Dialog.{output_cleared, typed_in};
 ghost use Rattle.cpm_run.specs.Play.{Attends, IsEcho, PlayState, PlaysOn, arrived, first_state};
 ghost use Rattle.cpm_run.specs.Seat.{Seat};
 ghost use Rattle.cpm_run.specs.Turns.{IsTurn, is_finished};
-ghost use Rattle.cpm_run.specs.Looks.{Attention, MayLook, MayStep, after_step, patience_of};
-ghost use Rattle.cpm_run.specs.Private.Playing.{AfterLook, AfterShowing, HasShown, IsStill, IsUnasked, OnlyShows, Stands, StaysWatched, StepsTo, Waits, WaitsOn, Watched, Went, state_of, taken};
+ghost use Rattle.cpm_run.specs.Looks.{Attention, HoldsFew, MayLook, MayStep, TakesLine};
+ghost use Rattle.cpm_run.specs.Private.Playing.{AfterLook, AfterShowing, EchoGrows, HasShown, IsPut, IsQuiet, IsStill, IsTold, IsUnasked, MakesNoStep, OnlyShows, ShownOn, ShowsRest, Stands, StepsTo, Waits, WaitsOn, Watched, Went, state_of, taken};
 
 use crate::arriving::{Arrival, PlayEnd};
 use crate::ending::Why;
@@ -99,9 +99,10 @@ impl<S: Sectors> Playing<S> {
         ensures arrivals { self.new.arrivals.items ≡ self.old.arrivals.items }
         ensures ended { self.new.ended ≡ self.old.ended }
         ensures looked { self.new.looked ≡ self.old.looked }
+        ensures bdos { self.new.bdos ≡ self.old.bdos }
         ensures goes { (start : PlayState S) (shown : List ℕ) → PlaysOn S.sectors S.faults start (state_of self.old shown) → Went S.sectors S.faults result start (state_of self.new shown) }
         ensures looks { (start : PlayState S) (shown : List ℕ) (a : Attention) → Attends S.sectors S.faults start (state_of self.old shown) a → a.here ≡ false → self.old.turns + most ≤ a.last + 4000000
-            → StepsTo S.sectors S.faults result start (state_of self.new shown) a }
+            → HoldsFew (state_of self.old []).run → StepsTo S.sectors S.faults result start (state_of self.new shown) a }
     {
         let (made, stop) = z80_machine::run(&mut self.cpu, &mut self.memory, SYSTEM, most);
         self.turns += made;
@@ -123,13 +124,14 @@ impl<S: Sectors> Playing<S> {
         requires running { is_finished self.old.cpu.pc ≡ false }
         requires room { self.old.turns < 2 ^ 64 - 1 }
         ensures turns { self.new.turns ≡ self.old.turns + 1 }
+        ensures turn { IsTurn S.sectors S.faults (λ d. d) (state_of self.old []).run result (state_of self.new []).run }
         ensures ahead { self.new.ahead.items ≡ self.old.ahead.items }
         ensures arrivals { self.new.arrivals.items ≡ self.old.arrivals.items }
         ensures ended { self.new.ended ≡ self.old.ended }
         ensures looked { self.new.looked ≡ self.old.looked }
         ensures goes { (start : PlayState S) (shown : List ℕ) → PlaysOn S.sectors S.faults start (state_of self.old shown) → Went S.sectors S.faults result start (state_of self.new shown) }
         ensures looks { (start : PlayState S) (shown : List ℕ) (a : Attention) → Attends S.sectors S.faults start (state_of self.old shown) a → MayStep (state_of self.old []).run self.old.turns a
-            → StepsTo S.sectors S.faults result start (state_of self.new shown) (after_step (patience_of self.old.cpu) self.old.turns a) }
+            → StepsTo S.sectors S.faults result start (state_of self.new shown) a }
     {
         let end = turn(&mut self.cpu, &mut self.memory, &mut self.bdos);
         self.turns += 1;
@@ -143,6 +145,7 @@ impl<S: Sectors> Playing<S> {
         ensures ended { self.new.ended ≡ self.old.ended }
         ensures output { self.new.bdos.terminal.console.output ≡ self.old.bdos.terminal.console.output }
         ensures memory { self.new.memory ≡ self.old.memory }
+        ensures untyped { OnErr result (self.new.bdos ≡ self.old.bdos) }
         ensures typed { OnOk result (self.new.bdos ≡ with_console (typed_in bytes.now self.old.bdos.terminal.console) self.old.bdos) }
         ensures arrivals { self.new.arrivals.items ≡ taken self.old.turns bytes.now result self.old.arrivals.items }
         ensures came { (start : PlayState S) (shown : List ℕ) → PlaysOn S.sectors S.faults start (state_of self.old shown) → PlaysOn S.sectors S.faults start (state_of self.new shown) }
@@ -166,21 +169,28 @@ impl<S: Sectors> Playing<S> {
         station: &mut K,
         patience: Patience,
     ) -> Result<(), PlayEnd>
-        ensures still { IsStill self.old self.new }
+        ensures still { MakesNoStep self.old self.new }
         ensures ahead { self.new.ahead.items ≡ self.old.ahead.items }
+        ensures output { self.new.bdos.terminal.console.output ≡ self.old.bdos.terminal.console.output }
+        ensures looked { OnOk result (self.new.looked ≡ self.new.turns) }
+        ensures grows { TakesLine self.old.cpu → OnOk result (EchoGrows self.old self.new) }
         ensures waits { (limit : ℕ) (start : PlayState S) (before : Seat) → Waits S.sectors S.faults limit start before self.old (K.seat station.old) → IsEcho (state_of self.old []).run self.old.ahead.items
             → WaitsOn S.sectors S.faults limit result start before self.new (K.seat station.new) }
-        ensures looks { (start : PlayState S) (before : Seat) (a : Attention) → Watched S.sectors S.faults start before self.old (K.seat station.old) a → patience ≡ patience_of self.old.cpu → MayLook patience (state_of self.old []).run self.old.turns a
-            → AfterLook S.sectors S.faults result patience a start before self.new (K.seat station.new) }
+        ensures looks { (start : PlayState S) (before : Seat) (a : Attention) → Watched S.sectors S.faults start before self.old (K.seat station.old) a → MayLook patience (state_of self.old []).run self.old.turns a
+            → AfterLook S.sectors S.faults patience result start before self.new (K.seat station.new) a }
     {
         let mut buffer = [0; 256];
         match station.listen(self.turns, patience, &mut buffer)? {
             Came::Bytes(count) => {
                 self.take_in(alloc, &buffer[..count.min(256)])?;
+                self.looked = self.turns;
                 // What the keyboard says last counts: it may give keys again after it said that none would come.
                 self.ended = false;
             }
-            Came::End => self.ended = true,
+            Came::End => {
+                self.looked = self.turns;
+                self.ended = true;
+            }
             Came::Leave => return Err(PlayEnd::Left),
         }
         Ok(())
@@ -191,7 +201,8 @@ impl<S: Sectors> Playing<S> {
         ensures others { OnlyShows self.old self.new }
         ensures failed { OnErr result (self.new ≡ self.old) }
         ensures keys { IsUnasked (K.seat station.old) (K.seat station.new) }
-        ensures looks { StaysWatched S.sectors S.faults self.old self.new (K.seat station.old) (K.seat station.new) }
+        ensures cleared { OnOk result (self.new.bdos ≡ with_console (output_cleared self.old.bdos.terminal.console) self.old.bdos) }
+        ensures events { ShowsRest result self.old (K.seat station.old) (K.seat station.new) }
         ensures all { OnOk result ((before : Seat) (shown : List ℕ) → HasShown before (K.seat station.old) shown self.old.ahead.items
             → (bytes : List ℕ) × (self.old.bdos.terminal.console.output ≡ Some bytes) × HasShown before (K.seat station.new) shown bytes) }
         ensures rest { OnOk result ((self.new.ahead.items ≡ []) × (self.new.bdos.terminal.console.output ≡ Some []) × ((start : PlayState S) (shown bytes : List ℕ) → self.old.bdos.terminal.console.output ≡ Some bytes → PlaysOn S.sectors S.faults start (state_of self.old shown) → PlaysOn S.sectors S.faults start (state_of self.new (shown ++ bytes)))) }
@@ -212,7 +223,9 @@ impl<S: Sectors> Playing<S> {
         ensures arrivals { self.new.arrivals.items ≡ self.old.arrivals.items }
         ensures ended { self.new.ended ≡ self.old.ended }
         ensures keys { IsUnasked (K.seat station.old) (K.seat station.new) }
-        ensures looks { StaysWatched S.sectors S.faults self.old self.new (K.seat station.old) (K.seat station.new) }
+        ensures looks { (start : PlayState S) (before : Seat) (a : Attention) → Watched S.sectors S.faults start before self.old (K.seat station.old) a → IsPut None self.old
+            → ShownOn S.sectors S.faults result start before self.new (K.seat station.new) a }
+        ensures told { (before : Seat) → IsQuiet before self.old (K.seat station.old) → IsTold result before self.new (K.seat station.new) }
         ensures ahead { OnOk result (self.new.ahead.items ≡ []) }
         ensures all { OnOk result (self.new.bdos.terminal.console.output ≡ Some []) }
         ensures so_far { (start : PlayState S) (before : Seat) → Stands S.sectors S.faults start before self.old (K.seat station.old) → AfterShowing S.sectors S.faults result start before self.new (K.seat station.new) }
@@ -226,10 +239,14 @@ impl<S: Sectors> Playing<S> {
     /// Shows what was put, if it is much, or if a part of it is shown already.
     pub(crate) fn show_much<K: Station>(&mut self, station: &mut K) -> Result<(), StationFault>
         ensures still { IsStill self.old self.new }
+        ensures held { OnOk result (HoldsFew (state_of self.new []).run) }
+        ensures told { (before : Seat) → IsQuiet before self.old (K.seat station.old) → IsTold result before self.new (K.seat station.new) }
         ensures arrivals { self.new.arrivals.items ≡ self.old.arrivals.items }
         ensures ended { self.new.ended ≡ self.old.ended }
         ensures keys { IsUnasked (K.seat station.old) (K.seat station.new) }
-        ensures looks { StaysWatched S.sectors S.faults self.old self.new (K.seat station.old) (K.seat station.new) }
+        ensures ahead { OnOk result (self.new.ahead.items ≡ []) }
+        ensures looks { (start : PlayState S) (before : Seat) (a : Attention) → Watched S.sectors S.faults start before self.old (K.seat station.old) a → IsPut None self.old
+            → ShownOn S.sectors S.faults result start before self.new (K.seat station.new) a }
         ensures so_far { (start : PlayState S) (before : Seat) → Stands S.sectors S.faults start before self.old (K.seat station.old) → AfterShowing S.sectors S.faults result start before self.new (K.seat station.new) }
     {
         if !self.ahead.is_empty() || self.bdos.console().output().len() >= MOST_HELD {

@@ -1,14 +1,14 @@
 //! What a session does before a step that asks for input.
 
-ghost use Rattle.std.specs.Prelude.{◌≡◌, ◌≢◌, ◌<◌, ◌≤◌, ◌+◌, ◌-◌, [], IfOk, List, OnOk, Option, false, true, ℕ};
+ghost use Rattle.std.specs.Prelude.{◌≡◌, ◌≢◌, ◌<◌, ◌≤◌, ◌+◌, [], IfOk, List, OnOk, Option, Some, false, true, ℕ};
 ghost use Rattle.cpm_console.specs.Dialog.{dialog_of, put_by};
 ghost use Rattle.cpm_console.specs.Line.{NoInput, line_transcript, typed_line};
 ghost use Rattle.cpm_console.specs.Screen.{screen};
-ghost use Rattle.cpm_run.specs.Looks.{Attention, TakesLine, line_room, patience_of};
-ghost use Rattle.cpm_run.specs.Play.{IsEcho, PlayState};
+ghost use Rattle.cpm_run.specs.Looks.{Attention, HoldsFew, IsLookDue, TakesLine, line_room, next_echo, patience_of};
+ghost use Rattle.cpm_run.specs.Play.{PlayState};
 ghost use Rattle.cpm_run.specs.Seat.{Seat};
 ghost use Rattle.cpm_run.specs.declared.station.Patience.TheVariants as how;
-ghost use Rattle.cpm_run.specs.Private.Playing.{Attended, Continues, Fit, IsBetween, IsStill, SoFar, StaysWatched, Waits, WaitsOn, Watched, state_of};
+ghost use Rattle.cpm_run.specs.Private.Playing.{AfterLook, Attended, BeginsEcho, Continues, IsBetween, IsStill, LooksOn, MakesNoStep, SoFar, Waits, WaitsOn, Watched, WatchedOn, state_of};
 
 use crate::arriving::PlayEnd;
 use crate::asking::{patience_of, takes_line};
@@ -21,8 +21,8 @@ use std::alloc::{AllocError, Global};
 /// How often the keyboard is asked for a byte before a session gives up. At ten times a second that takes 13 years.
 const MOST_WAITS: u32 = u32::MAX;
 
-/// Once this number of steps follows the last look at the keyboard, `attend` looks even if the next step asks for nothing, so that a person
-/// can leave a program that only prints or computes.
+/// Once this number of steps follows the last look at the keyboard, `attend` looks whatever the next step is, so that a person can leave every
+/// program.
 const LONGEST_UNSEEN: u64 = 2_000_000;
 
 /// What function 10 has put so far, and whether the line is whole.
@@ -69,12 +69,13 @@ impl<S: Sectors> Playing<S> {
     fn await_byte<K: Station>(&mut self, alloc: Global, station: &mut K) -> Result<(), PlayEnd>
         requires byte { patience_of self.old.cpu ≡ how.Wait }
         requires other { ¬ TakesLine self.old.cpu }
-        ensures still { IsStill self.old self.new }
-        ensures looks { (start : PlayState S) (before : Seat) (a : Attention) → Watched S.sectors S.faults start before self.old (K.seat station.old) a → self.old.turns ≤ a.last + 4000000 → Attended S.sectors S.faults result start before self.new (K.seat station.new) }
+        ensures still { MakesNoStep self.old self.new }
+        ensures looks { (start : PlayState S) (before : Seat) (a : Attention) → Watched S.sectors S.faults start before self.old (K.seat station.old) a → self.old.bdos.terminal.console.output ≡ Some [] → self.old.ahead.items ≡ []
+            → self.old.turns < self.old.looked + 2000000 → Attended S.sectors S.faults result start before self.new (K.seat station.new) }
         ensures waits { (limit : ℕ) (start : PlayState S) (before : Seat) → Waits S.sectors S.faults limit start before self.old (K.seat station.old) → self.old.ahead.items ≡ []
             → WaitsOn S.sectors S.faults limit result start before self.new (K.seat station.new) }
     {
-        for _ in 0..MOST_WAITS {
+        for look in 0..MOST_WAITS {
             if self.has_byte() {
                 return Ok(());
             }
@@ -85,19 +86,31 @@ impl<S: Sectors> Playing<S> {
         Err(PlayEnd::Failed)
     }
 
+    /// What function 10 would put for the bytes that are there.
+    fn echo_so_far(&self, alloc: Global) -> Result<Echo, AllocError>
+        requires line { TakesLine self.now.cpu }
+        ensures whole { IfOk result (λ echo. echo.is_whole ≡ true → (typed_line (line_room (state_of self.now []).run) (screen (λ d. d) self.now.bdos.terminal)).ending ≢ NoInput) }
+        ensures part { IfOk result (λ echo. (typed_line (line_room (state_of self.now []).run) (screen (λ d. d) self.now.bdos.terminal)).ending ≢ NoInput → echo.is_whole ≡ true) }
+        ensures bytes { IfOk result (λ echo. echo.bytes.items ≡ next_echo (state_of self.now []).run) }
+    {
+        let room = self.memory.get(self.cpu.main.de());
+        echo_of(alloc, self.bdos.console().typed(), self.bdos.column(), room)
+    }
+
     /// Shows the echo of the line that is being typed, as far as it is not shown yet. Answers whether the line is whole.
     fn echo<K: Station>(&mut self, alloc: Global, station: &mut K) -> Result<bool, PlayEnd>
         requires line { TakesLine self.old.cpu }
         ensures still { IsStill self.old self.new }
         ensures ended { self.new.ended ≡ self.old.ended }
-        ensures looks { StaysWatched S.sectors S.faults self.old self.new (K.seat station.old) (K.seat station.new) }
+        ensures output { self.new.bdos.terminal.console.output ≡ self.old.bdos.terminal.console.output }
+        ensures looks { (start : PlayState S) (before : Seat) (a : Attention) → Watched S.sectors S.faults start before self.old (K.seat station.old) a → self.old.bdos.terminal.console.output ≡ Some [] → BeginsEcho self.old
+            → WatchedOn S.sectors S.faults result start before self.new (K.seat station.new) a }
         ensures whole { IfOk result (λ whole. whole ≡ true → (typed_line (line_room (state_of self.new []).run) (screen (λ d. d) self.new.bdos.terminal)).ending ≢ NoInput) }
         ensures part { IfOk result (λ whole. (typed_line (line_room (state_of self.new []).run) (screen (λ d. d) self.new.bdos.terminal)).ending ≢ NoInput → whole ≡ true) }
-        ensures echo { OnOk result (IsEcho (state_of self.new []).run self.new.ahead.items) }
+        ensures echo { OnOk result (self.new.ahead.items ≡ next_echo (state_of self.new []).run) }
         ensures waits { (limit : ℕ) (start : PlayState S) (before : Seat) → Waits S.sectors S.faults limit start before self.old (K.seat station.old) → WaitsOn S.sectors S.faults limit result start before self.new (K.seat station.new) }
     {
-        let room = self.memory.get(self.cpu.main.de());
-        let echo = echo_of(alloc, self.bdos.console().typed(), self.bdos.column(), room)?;
+        let echo = self.echo_so_far(alloc)?;
         let Some(more) = behind(&self.ahead, &echo.bytes) else {
             return Err(PlayEnd::Failed);
         };
@@ -111,11 +124,12 @@ impl<S: Sectors> Playing<S> {
     /// Waits until a line is whole, or no byte will come. Shows what is typed meanwhile.
     fn await_line<K: Station>(&mut self, alloc: Global, station: &mut K) -> Result<(), PlayEnd>
         requires line { TakesLine self.old.cpu }
-        ensures still { IsStill self.old self.new }
-        ensures looks { (start : PlayState S) (before : Seat) (a : Attention) → Watched S.sectors S.faults start before self.old (K.seat station.old) a → self.old.turns ≤ a.last + 4000000 → Attended S.sectors S.faults result start before self.new (K.seat station.new) }
+        ensures still { MakesNoStep self.old self.new }
+        ensures looks { (start : PlayState S) (before : Seat) (a : Attention) → Watched S.sectors S.faults start before self.old (K.seat station.old) a → self.old.bdos.terminal.console.output ≡ Some [] → self.old.ahead.items ≡ []
+            → self.old.turns < self.old.looked + 2000000 → Attended S.sectors S.faults result start before self.new (K.seat station.new) }
         ensures waits { (limit : ℕ) (start : PlayState S) (before : Seat) → Waits S.sectors S.faults limit start before self.old (K.seat station.old) → WaitsOn S.sectors S.faults limit result start before self.new (K.seat station.new) }
     {
-        for _ in 0..MOST_WAITS {
+        for look in 0..MOST_WAITS {
             if self.echo(alloc, station)? {
                 return Ok(());
             }
@@ -129,24 +143,15 @@ impl<S: Sectors> Playing<S> {
         Err(PlayEnd::Failed)
     }
 
-    /// Shows all, and looks at the keyboard once or until the next step has what it takes.
-    fn ask<K: Station>(
-        &mut self,
-        alloc: Global,
-        station: &mut K,
-        patience: Patience,
-    ) -> Result<(), PlayEnd>
-        requires patience { patience ≡ patience_of self.old.cpu }
-        ensures still { IsStill self.old self.new }
-        ensures looks { (start : PlayState S) (before : Seat) (a : Attention) → Watched S.sectors S.faults start before self.old (K.seat station.old) a → a.here ≡ false → self.old.turns ≤ a.last + 4000000
-            → (patience ≡ how.Glance → a.last + 2000000 ≤ self.old.turns) → Attended S.sectors S.faults result start before self.new (K.seat station.new) }
+    /// Waits until the next step has the byte or the line that it takes, or no byte will come. All that was put is shown before.
+    fn await_input<K: Station>(&mut self, alloc: Global, station: &mut K) -> Result<(), PlayEnd>
+        requires waits { patience_of self.old.cpu ≡ how.Wait }
+        ensures still { MakesNoStep self.old self.new }
+        ensures looks { (start : PlayState S) (before : Seat) (a : Attention) → Watched S.sectors S.faults start before self.old (K.seat station.old) a → self.old.ahead.items ≡ [] → self.old.turns < self.old.looked + 2000000
+            → Attended S.sectors S.faults result start before self.new (K.seat station.new) }
         ensures so_far { (limit : ℕ) (start : PlayState S) (before : Seat) → SoFar S.sectors S.faults start before self.old (K.seat station.old) → IsBetween limit self.old → Continues S.sectors S.faults limit result start before self.new (K.seat station.new) }
     {
         self.show_all(station)?;
-        match patience {
-            Patience::Wait => {}
-            _ => return self.listen(alloc, station, patience),
-        }
         if takes_line(&self.cpu) {
             self.await_line(alloc, station)
         } else {
@@ -154,12 +159,56 @@ impl<S: Sectors> Playing<S> {
         }
     }
 
-    /// Whether the next step can be made without a look.
-    fn needs_no_look(&self, patience: Patience) -> bool
-        ensures yes { result ≡ true → (patience ≡ how.Glance) × (self.now.turns - self.now.looked < 2000000) }
-        ensures no { result ≡ false → patience ≡ how.Glance → self.now.looked + 2000000 ≤ self.now.turns }
+    /// Shows all that was put, so that nothing is hidden from the person, and asks the keyboard once.
+    fn look<K: Station>(
+        &mut self,
+        alloc: Global,
+        station: &mut K,
+        patience: Patience,
+    ) -> Result<(), PlayEnd>
+        requires quick { patience ≢ how.Wait }
+        ensures still { MakesNoStep self.old self.new }
+        ensures looked { OnOk result (self.new.looked ≡ self.new.turns) }
+        ensures output { OnOk result (self.new.bdos.terminal.console.output ≡ Some []) }
+        ensures ahead { OnOk result (self.new.ahead.items ≡ []) }
+        ensures looks { (start : PlayState S) (before : Seat) (a : Attention) → Watched S.sectors S.faults start before self.old (K.seat station.old) a → self.old.ahead.items ≡ [] → IsLookDue patience (state_of self.old []).run self.old.turns a
+            → AfterLook S.sectors S.faults patience result start before self.new (K.seat station.new) a }
+        ensures so_far { (limit : ℕ) (start : PlayState S) (before : Seat) → SoFar S.sectors S.faults start before self.old (K.seat station.old) → IsBetween limit self.old → Continues S.sectors S.faults limit result start before self.new (K.seat station.new) }
     {
-        patience == Patience::Glance && self.turns.saturating_sub(self.looked) < LONGEST_UNSEEN
+        self.show_all(station)?;
+        self.listen(alloc, station, patience)
+    }
+
+    /// Whether the last look at the keyboard is so long ago that the next step has to wait for another.
+    fn is_look_overdue(&self) -> bool
+        ensures yes { result ≡ true → self.now.looked + 2000000 ≤ self.now.turns }
+        ensures no { result ≡ false → self.now.turns < self.now.looked + 2000000 }
+    {
+        self.turns.saturating_sub(self.looked) >= LONGEST_UNSEEN
+    }
+
+    /// Looks at the keyboard once if the next step takes what has come, and otherwise if nobody has looked for long. Even a step that waits may have
+    /// its input already, so without that a person could not leave a program that takes lines without room for a byte.
+    fn look_in_time<K: Station>(
+        &mut self,
+        alloc: Global,
+        station: &mut K,
+        patience: Patience,
+    ) -> Result<(), PlayEnd>
+        requires patience { patience ≡ patience_of self.old.cpu }
+        ensures still { MakesNoStep self.old self.new }
+        ensures looks { (start : PlayState S) (before : Seat) (a : Attention) → Watched S.sectors S.faults start before self.old (K.seat station.old) a → a.here ≡ false → HoldsFew (state_of self.old []).run → self.old.ahead.items ≡ []
+            → LooksOn S.sectors S.faults result start before self.new (K.seat station.new) }
+        ensures so_far { (limit : ℕ) (start : PlayState S) (before : Seat) → SoFar S.sectors S.faults start before self.old (K.seat station.old) → IsBetween limit self.old → Continues S.sectors S.faults limit result start before self.new (K.seat station.new) }
+    {
+        match patience {
+            Patience::Poll => return self.look(alloc, station, Patience::Poll),
+            _ => {}
+        }
+        if self.is_look_overdue() {
+            return self.look(alloc, station, Patience::Glance);
+        }
+        Ok(())
     }
 
     /// Sees that the next step has the input that it takes, and that the keyboard is looked at from time to time.
@@ -168,23 +217,20 @@ impl<S: Sectors> Playing<S> {
         alloc: Global,
         station: &mut K,
     ) -> Result<(), PlayEnd>
-        requires looked { self.old.looked ≤ self.old.turns }
         ensures cpu { self.new.cpu ≡ self.old.cpu }
         ensures turns { self.new.turns ≡ self.old.turns }
-        ensures looked { self.new.looked ≤ self.new.turns }
-        ensures lately { OnOk result (self.new.turns - self.new.looked < 2000000) }
-        ensures looks { (start : PlayState S) (before : Seat) (a : Attention) → Watched S.sectors S.faults start before self.old (K.seat station.old) a → a.here ≡ false → a.last ≡ self.old.looked → self.old.turns ≤ self.old.looked + 4000000
-            → Fit S.sectors S.faults result start before self.new (K.seat station.new) }
+        ensures looks { (start : PlayState S) (before : Seat) (a : Attention) → Watched S.sectors S.faults start before self.old (K.seat station.old) a → a.here ≡ false → HoldsFew (state_of self.old []).run → self.old.ahead.items ≡ []
+            → Attended S.sectors S.faults result start before self.new (K.seat station.new) }
         ensures so_far { (limit : ℕ) (start : PlayState S) (before : Seat) → SoFar S.sectors S.faults start before self.old (K.seat station.old) → IsBetween limit self.old → Continues S.sectors S.faults limit result start before self.new (K.seat station.new) }
     {
         let patience = patience_of(&self.cpu);
-        if self.needs_no_look(patience) {
-            return Ok(());
-        }
-        if let Err(end) = self.ask(alloc, station, patience) {
+        if let Err(end) = self.look_in_time(alloc, station, patience) {
             return Err(end);
         }
-        self.looked = self.turns;
+        match patience {
+            Patience::Wait => return self.await_input(alloc, station),
+            _ => {}
+        }
         Ok(())
     }
 }

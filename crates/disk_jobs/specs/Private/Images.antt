@@ -10,8 +10,8 @@ use Rattle.z80dev_finish.specs.declared.end.End.{End}
 use Rattle.z80dev_finish.specs.declared.end.End.TheVariants as end
 use Rattle.disk_jobs.specs.Disks.{IsChanged, IsNotLocked, path_in}
 use Rattle.job_steps.specs.Ending.{effect_of}
-use Rattle.claimed_images.specs.declared.image.Image.{Image}
-use Rattle.claimed_images.specs.Claims.{image_lines}
+use Rattle.job_steps.specs.declared.image.Image.{Image}
+use Rattle.job_steps.specs.Claims.{image_lines}
 
 abbrev pub LocksPath : Folder → Folder → List ℕ → Bool → Result Bool End → Type 0
 LocksPath old new path wanted (Ok is_held) = (new ≡ locked_by old path wanted is_held) × IsLockWanted wanted is_held

@@ -3,9 +3,9 @@ use Rattle.std.specs.Prelude.{◌≡◌, ◌+◌, ◌-◌, ◌<◌, ◌≤◌, �
 use Rattle.std.specs.Option.{option_map_or}
 use Rattle.std.specs.List.{filter, slice_index_or}
 use Rattle.std.specs.List.Sorted.{IsNonDecreasingBy}
-use Rattle.ruler.specs.declared.shape.Statement.{Statement}
-use Rattle.ruler.specs.declared.shape.Statement.TheVariants.{Fixed, Jump}
-use Rattle.ruler.specs.Choice.{Choice, IsJump, IsShape, bytes_before}
+use Rattle.relax.specs.declared.shape.Statement.{Statement}
+use Rattle.relax.specs.declared.shape.Statement.TheVariants.{Fixed, Jump}
+use Rattle.relax.specs.Choice.{Choice, IsJump, IsShape, bytes_before}
 use Rattle.relax.specs.Growth.{after}
 use Rattle.jump_reasons.specs.Distances.{farthest, jump_distance, lies_between}
 use Rattle.jump_reasons.specs.declared.long_jumps.LongJump.{LongJump}

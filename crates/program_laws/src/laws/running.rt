@@ -5,7 +5,7 @@ ghost use Rattle.z80_instr.specs.declared.ShortCond.{ShortCond};
 ghost use Rattle.z80_machine.specs.Types.{Step};
 ghost use Rattle.z80_cpu.specs.State.{Machine, byte_at, on_cpu};
 ghost use Rattle.z80_machine.specs.Turn.{IsStep};
-ghost use Rattle.ruler.specs.Choice.{Choice, IsValid, place};
+ghost use Rattle.relax.specs.Choice.{Choice, IsValid, place};
 ghost use Rattle.z80_instr.specs.declared.Branch.{Branch};
 ghost use Rattle.asm_statements.specs.Program.Statement.{Statement, Code, Jump, Short};
 ghost use Rattle.asm_parse.specs.Expression.{Expression};

@@ -6,7 +6,7 @@ ghost use Rattle.asm_macro.specs.Expands.{End, IsExpansion, Stopped};
 ghost use Rattle.asm_module.specs.declared.fault.AsmFault.{AsmFault};
 ghost use Rattle.asm_module.specs.Assembled.{Assembled, Assembles, HasCause};
 ghost use Rattle.asm_text.specs.Lines.{Numbered};
-ghost use Rattle.ruler.specs.Choice.{Choice, IsSettled};
+ghost use Rattle.relax.specs.Choice.{Choice, IsSettled};
 ghost use Rattle.program_laws.specs.Causes.{IsOfSource, LacksNoMemory};
 ghost use Rattle.program_laws.specs.Grown.{IsMarkedJump};
 ghost use Rattle.zlink.specs.declared.source.Source.{Source};

@@ -1,10 +1,10 @@
 -- What is found in the least choice.
 use Rattle.std.specs.Prelude.{◌≡◌, ℕ, ◌<◌, ◌≤◌, List}
 use Rattle.common.specs.declared.limits.TheConstants.{LONGEST_PROGRAM}
-use Rattle.ruler.specs.declared.shape.Statement.{Statement}
+use Rattle.relax.specs.declared.shape.Statement.{Statement}
 use Rattle.relax.specs.declared.growth.Verdict.{Verdict}
 use Rattle.relax.specs.declared.growth.Verdict.TheVariants.{Best, Range, TooLarge}
-use Rattle.ruler.specs.Choice.{Choice, total, ShortsReach, IsLowestShortMiss}
+use Rattle.relax.specs.Choice.{Choice, total, ShortsReach, IsLowestShortMiss}
 
 -- What a verdict says about the one choice in which it is found. If that choice is the least settled one, what the
 -- verdict says about every choice follows.

@@ -1,8 +1,8 @@
 use Rattle.std.specs.Prelude.{◌≡◌, ℕ, ◌+◌, ◌<◌, ◌≤◌, ◌⊎◌, ◌≢◌, Bool, true, false, List, length, count_by}
 use Rattle.std.specs.List.{slice_index_or}
-use Rattle.ruler.specs.declared.shape.Statement.{Statement}
+use Rattle.relax.specs.declared.shape.Statement.{Statement}
 use Rattle.relax.specs.declared.relaxable.RelaxableJump.{RelaxableJump}
-use Rattle.ruler.specs.Choice.{IsJump, chosen}
+use Rattle.relax.specs.Choice.{IsJump, chosen}
 use Rattle.relax.specs.Probes.{jump_count}
 
 -- Words for the functions of the worklist.

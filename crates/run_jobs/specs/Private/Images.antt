@@ -4,8 +4,8 @@ use Rattle.std.specs.Borrow.{Bor}
 use Rattle.z80dev_finish.specs.Files.{Folder, IsFree}
 use Rattle.z80dev_finish.specs.declared.end.End.{End}
 use Rattle.run_jobs.specs.Running.{ClaimsDisk, IsDiskNotClaimed}
-use Rattle.claimed_images.specs.declared.image.Image.{Image}
-use Rattle.claimed_images.specs.Claims.{image_lines}
+use Rattle.job_steps.specs.declared.image.Image.{Image}
+use Rattle.job_steps.specs.Claims.{image_lines}
 
 -- the image of the disk of a run is claimed, if there is one
 abbrev pub ClaimsDiskImage : Option (Bor (List ℕ)) → Bool → Folder → Folder → Result Image End → Type 0

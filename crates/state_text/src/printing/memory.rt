@@ -12,7 +12,7 @@ use z80_cpu::Memory;
 const LINE_BYTES: u16 = 16;
 
 /// A byte as a character, or a full stop for a byte outside 20H to 7EH.
-fn shown_character(byte: u8) -> u8
+pub fn shown_character(byte: u8) -> u8
     ensures { result ≡ shown_character byte }
 {
     if byte >= 0x20 && byte <= 0x7E {

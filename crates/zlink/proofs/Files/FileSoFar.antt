@@ -6,8 +6,8 @@ use Rattle.std.proofs.lemmas.Bool.{cases_lt}
 use Rattle.std.proofs.lemmas.List.{take-append-le, drop-append-le, append-nil, drop_at, take_all, length-map}
 use Rattle.std.proofs.lemmas.List.Elements.{All-from_get_or, All-weaker}
 use Rattle.std.proofs.lemmas.Option.{slice_get-map, slice_get_within}
-use Rattle.ruler.specs.Choice.{Choice, IsNear, IsValid, bytes_before, place, size_of}
-use Rattle.ruler.proofs.Places.{bytes-zero, bytes-next, bytes-le, size-there}
+use Rattle.relax.specs.Choice.{Choice, IsNear, IsValid, bytes_before, place, size_of}
+use Rattle.relax.proofs.Places.{bytes-zero, bytes-next, bytes-le, size-there}
 use Rattle.zmo_module.specs.Holes.{IsHole}
 use Rattle.zmo_module.specs.Modules as object
 use Rattle.zmo_module.specs.Modules.{ModuleStatement}

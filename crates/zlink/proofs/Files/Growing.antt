@@ -6,7 +6,7 @@ use Rattle.std.proofs.lemmas.List.Elements.{filter_map-append}
 use Rattle.std.proofs.lemmas.List.Concat.{length-flat_map}
 use Rattle.std.proofs.lemmas.List.Sums.{sum_by-take-le}
 use Rattle.std.proofs.lemmas.Grind.{flat_map-append}
-use Rattle.ruler.specs.Choice.{Choice}
+use Rattle.relax.specs.Choice.{Choice}
 use Rattle.zmo_module.specs.declared.module.Module as M
 use Rattle.zmo_module.specs.declared.statement.Statement as S
 use Rattle.zmo_module.specs.Modules.{Module, ModuleStatement, module_of, statement_of}

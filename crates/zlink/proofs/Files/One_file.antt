@@ -11,9 +11,9 @@ use Rattle.z80_instr.specs.declared.Branch.{Branch}
 use Rattle.z80_instr.specs.declared.ShortCond.{ShortCond}
 use Rattle.z80_instr.specs.Codes.{Codes}
 use Rattle.z80_instr.specs.Table.{canonical, other}
-use Rattle.ruler.specs.declared.shape.Statement.{Statement as Sized}
-use Rattle.ruler.specs.Choice.{Choice, bytes_before, place}
-use Rattle.ruler.proofs.Places.{bytes-le, bytes-zero}
+use Rattle.relax.specs.declared.shape.Statement.{Statement as Sized}
+use Rattle.relax.specs.Choice.{Choice, bytes_before, place}
+use Rattle.relax.proofs.Places.{bytes-le, bytes-zero}
 use Rattle.zmo_module.specs.Modules as object
 use Rattle.zmo_module.specs.Modules.{ModuleStatement}
 use Rattle.asm_stmt.specs.Made.{long_jump}

@@ -1,9 +1,9 @@
 -- When a file reads as the statements of modules.
 use Rattle.std.specs.Prelude.{ℕ, ◌&&◌, Bool, false, List, Option, Some, None, if◌then◌else◌, length, map}
 use Rattle.std.specs.List.{enumerate_from, filter_map}
-use Rattle.ruler.specs.declared.shape.Statement.{Statement as Sized}
-use Rattle.ruler.specs.declared.shape.Statement.TheVariants as sized
-use Rattle.ruler.specs.Choice.{Choice}
+use Rattle.relax.specs.declared.shape.Statement.{Statement as Sized}
+use Rattle.relax.specs.declared.shape.Statement.TheVariants as sized
+use Rattle.relax.specs.Choice.{Choice}
 use Rattle.asm_statements.specs.Program.Linked.{IsLinkedPiece}
 use Rattle.zmo_module.specs.Modules as object
 use Rattle.zmo_module.specs.Modules.{ModuleStatement}

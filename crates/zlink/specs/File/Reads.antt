@@ -1,7 +1,7 @@
 -- When a file reads as a program, statement by statement, for any type of statement.
 use Rattle.std.specs.Prelude.{◌≡◌, ℕ, ◌+◌, Bool, List, Some, length, slice_get, slice_range}
-use Rattle.ruler.specs.declared.shape.Statement.{Statement as Sized}
-use Rattle.ruler.specs.Choice.{Choice, bytes_before, place, total}
+use Rattle.relax.specs.declared.shape.Statement.{Statement as Sized}
+use Rattle.relax.specs.Choice.{Choice, bytes_before, place, total}
 
 -- When bytes are those of a statement: given its address, whether it is long, and the address of each statement.
 abbrev pub Pieces : Type 0 → Type 1

@@ -1,7 +1,7 @@
 -- The jumps of a list of statements that were written as JR and are long.
 use Rattle.std.specs.Prelude.{ℕ, ◌&&◌, List, Option, Some, None, if◌then◌else◌}
 use Rattle.std.specs.List.{enumerate_from, filter_map}
-use Rattle.ruler.specs.Choice.{Choice}
+use Rattle.relax.specs.Choice.{Choice}
 use Rattle.zmo_module.specs.Modules.{ModuleStatement}
 use Rattle.zlink.specs.File.Objects.{is_marked}
 

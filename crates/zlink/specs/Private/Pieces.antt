@@ -1,6 +1,6 @@
 -- What is written for statements.
 use Rattle.std.specs.Prelude.{◌≡◌, ℕ, ◌+◌, ◌^◌, ◌<◌, Bool, false, List, [], ◌∷◌, ◌++◌, All, Some, length, slice_get, slice_index}
-use Rattle.ruler.specs.Choice.{Choice, IsNear, size_of}
+use Rattle.relax.specs.Choice.{Choice, IsNear, size_of}
 use Rattle.asm_statements.specs.Program.Linked.{IsLinkedPiece}
 use Rattle.zmo_module.specs.Holes.{IsHole, LieWithin}
 use Rattle.zmo_module.specs.Modules as object

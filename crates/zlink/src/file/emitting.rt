@@ -1,7 +1,7 @@
 //! Writes the file of a whole program.
 
 ghost use Rattle.std.specs.Prelude.{◌≡◌, ◌≤◌, ◌+◌, All, IfOk, None, OnOk, length, map, slice_index};
-ghost use Rattle.ruler.specs.Choice.{IsValid, chosen};
+ghost use Rattle.relax.specs.Choice.{IsValid, chosen};
 ghost use Rattle.zmo_module.specs.Modules.{module_of, statement_of};
 ghost use Rattle.zmo_module.specs.Rules.{IsModule};
 ghost use Rattle.zlink.specs.Program.Faults.{first_fault};

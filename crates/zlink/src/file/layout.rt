@@ -2,7 +2,7 @@
 
 ghost use Rattle.std.specs.Prelude.{◌≡◌, ◌&&◌, ◌≤◌, ◌<◌, ◌+◌, ◌++◌, ◌^◌, All, IfOk, None, OnOk, length, map, vec_len};
 ghost use Rattle.common.specs.declared.limits.TheConstants.{MOST_STATEMENTS};
-ghost use Rattle.ruler.specs.Choice.{chosen};
+ghost use Rattle.relax.specs.Choice.{chosen};
 ghost use Rattle.zmo_module.specs.Modules.{module_of, statement_of};
 ghost use Rattle.zmo_module.specs.Rules.{IsModule};
 ghost use Rattle.zlink.specs.Program.Faults.{first_fault};
@@ -16,7 +16,7 @@ use crate::file::refs::stands;
 use crate::laws::{laid_out, within};
 use crate::program::Links;
 use common::FIRST_PLACE;
-use ruler::{Shape, Statement};
+use relax::{Shape, Statement};
 use std::alloc::{AllocError, Global};
 use zmo_module::Module;
 

@@ -2,7 +2,7 @@
 
 ghost use Rattle.std.specs.Prelude.{◌≡◌, ◌≤◌, ◌<◌, ◌+◌, ◌++◌, All, FitsSigned, OnOk, ℕ, ◌^◌, ◌+ℤ◌, drop, length, pos, replicate, slice_index, take};
 ghost use Rattle.std.specs.Int.{w8};
-ghost use Rattle.ruler.specs.Choice.{IsNear};
+ghost use Rattle.relax.specs.Choice.{IsNear};
 ghost use Rattle.z80_instr.specs.Codes.{Codes};
 ghost use Rattle.z80_instr.specs.Table.{canonical};
 ghost use Rattle.asm_stmt.specs.Cells.{written};

@@ -1,8 +1,8 @@
 //! Laws about files. A law is a function that does nothing and whose clause is a theorem.
 
 ghost use Rattle.std.specs.Prelude.{◌≡◌, ℕ, List};
-ghost use Rattle.ruler.specs.declared.shape.Statement.{Statement};
-ghost use Rattle.ruler.specs.Choice.{Choice};
+ghost use Rattle.relax.specs.declared.shape.Statement.{Statement};
+ghost use Rattle.relax.specs.Choice.{Choice};
 ghost use Rattle.zlink.specs.Program.Whole.{Placed};
 ghost use Rattle.zlink.specs.File.Objects.{ReadsObjects};
 ghost use Rattle.zlink.specs.File.Places.{ArePlaces};

@@ -2,8 +2,8 @@ use Rattle.std.proofs.Common.{◌≡◌, ◌∙◌, ◌++◌, [], ◌∷◌, Non
 use Rattle.std.specs.List.{AllZip}
 use Rattle.z80dev_finish.specs.Answers.{answer_by}
 use Rattle.z80dev_finish.specs.declared.answer.Kind.TheVariants as kind
-use Rattle.job_steps.proofs.Carried.{aside, carried}
-use Rattle.build_jobs.proofs.Clear.{are_files, as_many, clear}
+use Rattle.job_steps.proofs.Carried.{aside, carried, clear}
+use Rattle.build_jobs.proofs.Clear.{are_files, as_many}
 use Rattle.build_jobs.specs.Making.{AsmEnds, IsAsmOf, WritesAsm, shared_paths}
 use Rattle.job_steps.specs.Ending.{IsCarriedOut, effect_of, end_with_lines, lines_after}
 use Rattle.build_jobs.proofs.Lined.{ends_lined, lined_on, with_lines}

@@ -7,7 +7,8 @@ use Rattle.z80dev_make.specs.Products.{program_kinds}
 use Rattle.build_jobs.specs.Products.{build_products}
 use Rattle.build_jobs.specs.Private.Steps.{BuildsTexts}
 use Rattle.job_steps.specs.Reading.{IsOneNotRead, IsRead}
-use Rattle.build_jobs.proofs.Clear.{as_many, builds, builds_so, clear, clear_of}
+use Rattle.build_jobs.proofs.Clear.{as_many, builds, builds_so, clear_of}
+use Rattle.job_steps.proofs.Carried.{clear}
 use Rattle.build_jobs.proofs.Lined.{lined_as, lined_on}
 use Rattle.build_jobs.proofs.making.build_files.Goals as goal
 

@@ -4,8 +4,7 @@ use Rattle.z80dev_finish.specs.Answers.{MemoryAside, answer_by}
 use Rattle.job_steps.specs.Ending.{effect_of}
 use Rattle.build_jobs.specs.Outputs.{why_not_written}
 use Rattle.job_steps.specs.Reading.{IsRead}
-use Rattle.job_steps.proofs.Carried.{carried}
-use Rattle.build_jobs.proofs.Clear.{clear}
+use Rattle.job_steps.proofs.Carried.{carried, clear}
 use Rattle.z80dev_make.specs.Link.{IsLink}
 use Rattle.shared_lines.specs.Faults.Refusals.{told_text}
 use Rattle.z80dev_make.specs.Products.{program_kinds}

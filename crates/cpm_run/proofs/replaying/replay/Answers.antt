@@ -1,8 +1,9 @@
-use Rattle.std.proofs.Common.{◌≤◌, ◌∙◌, inl, subst, sym, ap}
+use Rattle.std.proofs.Common.{◌≤◌, ◌∙◌, [], inl, length, subst, sym, ap, arith}
 use Rattle.cpm_run.specs.declared.arriving.PlayEnd.{PlayEnd}
 use Rattle.cpm_run.specs.Play.{FollowsRecord, IsShownAgain, PlaysOn, ReplayEnds, first_state}
 use Rattle.cpm_run.specs.Play.PlaysOn.{same}
 use Rattle.cpm_run.specs.Private.Playing.{state_of}
+use Rattle.cpm_run.proofs.Looking.{no_event}
 use Rattle.cpm_run.proofs.Sitting.{at_first}
 use Rattle.cpm_run.proofs.replaying.replay.Goals as goal
 
@@ -11,7 +12,8 @@ returns g c =
     let start = first_state c.in-Ok.state.0 c.in-Ok.state.1 c.args.disk in
     let before = g.K.Station.seat c.args.station.now in
     let first = at_first g.S.Sectors.sectors g.S.Sectors.faults start before c.new-playing.result (subst (PlaysOn g.S.Sectors.sectors g.S.Sectors.faults start) (sym c.new-playing.ensures.state) (same start)) c.new-playing.ensures.ahead in
-    let closed = c.finish-end.ensures.ended c.args.limit c.args.last start before (c.repeat-end.ensures.stands start before first) c.repeat-end.ensures.keys in
+    let closed = c.finish-end.ensures.ended c.args.limit c.args.last start before (c.repeat-end.ensures.stands start before first) c.repeat-end.ensures.keys
+    (c.repeat-end.ensures.told before (record { none = c.new-playing.ensures.ahead; events = []; told = no_event before.events })) in
     let others = c.finish-end.ensures.others in
     let played = c.into_played.ensures in
     let final = state_of c.repeat-end.new.self closed.0 in
@@ -27,6 +29,10 @@ returns g c =
       played.disk ∙ others.disk,
       played.arrivals ∙ others.arrivals,
       subst (λ (e : PlayEnd). IsShownAgain e before (g.K.Station.seat c.finish-end.new.station) final) (sym played.end) closed.2,
+      λ is.
+          let few = c.repeat-end.ensures.short (ap (λ s. s.arrivals) c.new-playing.ensures.state) (c.finish-end.ensures.short (sym played.end ∙ is)) in
+          let same = ap length (played.arrivals ∙ others.arrivals) in
+          omega (arith, few, same),
       λ order.
           let none_yet = ap (λ s. s.arrivals) c.new-playing.ensures.state in
           let at_start = ap (λ s. s.turns) c.new-playing.ensures.state in

@@ -6,15 +6,15 @@ use Rattle.debugger.proofs.laws.help_is_in_order.Goals as goal
 
 entries : List (List Verb × List ℕ)
 entries =
-    (verb.Step ∷ verb.Next ∷ [], codes "make N turns, or one; one turn, but over a whole call") ∷
-    (verb.Finish ∷ [], codes "to the first return after which SP is higher") ∷
-    (verb.Run ∷ [], codes "to ADDR, a breakpoint, a watched byte, or the end") ∷
-    (verb.Back ∷ verb.BackNext ∷ [], codes "go back by N turns, or one; by one, but over a call") ∷
+    (verb.Step ∷ verb.Next ∷ [], codes "N turns (1); one turn, or all of a call") ∷
+    (verb.Finish ∷ [], codes "run to the first return with SP higher after it") ∷
+    (verb.Run ∷ [], codes "run to ADDR, a breakpoint, a watched byte, or the end") ∷
+    (verb.Back ∷ verb.BackNext ∷ [], codes "N turns back (1); one turn back, or all of a call") ∷
     (verb.BackRun ∷ [], codes "go back to the last breakpoint or watched change") ∷
     (verb.Turn ∷ [], codes "go to the state after N turns from the start") ∷
     (verb.Where ∷ verb.Registers ∷ [], codes "PC with its line of the listing; registers, DMA, user") ∷
-    (verb.Memory ∷ [], codes "N bytes of memory, or 16") ∷
-    (verb.Disassemble ∷ [], codes "N instructions, or 8") ∷
+    (verb.Memory ∷ [], codes "N bytes of memory (16)") ∷
+    (verb.Disassemble ∷ [], codes "N instructions (8)") ∷
     (verb.Stack ∷ verb.Output ∷ [], codes "the top of the stack; what the program has printed") ∷
     (verb.Who ∷ [], codes "the last turn that changed this byte") ∷
     (verb.Break ∷ [], codes "stop when PC is ADDR, and REG has this value") ∷
@@ -27,12 +27,12 @@ entries =
 
 notes : List (List ℕ)
 notes =
-    codes "A word may be shortened: it stands for the first command above that begins so:" ∷
-    codes "s is step, b is back, and br is break. ADDR is a label, or PC, SP, AF, BC, DE," ∷
-    codes "HL, IX or IY, each also with a number as in TEXT+1 or SP-2; or four hexadecimal" ∷
-    codes "digits as they are printed; or a number of the assembler, as 125H or 293. VALUE" ∷
-    codes "is the same, but no register, so write the byte BC as 0BCH. A turn that writes" ∷
-    codes "the same value does not change a byte." ∷
+    codes "A word may be shortened. It stands for the first command above, line by line," ∷
+    codes "left to right, that begins so: s is step, br is break. ADDR is a label, or PC," ∷
+    codes "SP, AF, BC, DE, HL, IX or IY, each also with a number as in TEXT+1 or SP-2; or" ∷
+    codes "four hexadecimal digits as they are printed; or a number of the assembler, as" ∷
+    codes "125H or 293. VALUE is the same, but no register: write the byte BC as 0BCH. A" ∷
+    codes "turn that writes the same value does not change a byte." ∷
     []
 
 pub returns-clause-order : goal.returns-clause-order

@@ -1,7 +1,7 @@
 use Rattle.std.proofs.Common.{◌≡◌, ◌++◌, ◌∷◌, ◌∙◌, ℕ, List, [], Result, Ok, Err, OnOk, ap, append_assoc, codes}
 use Rattle.std.specs.Bool.{if◌then◌else◌}
 use Rattle.std.specs.Result.{is_ok}
-use Rattle.state_text.specs.Labelled.{labelled_address}
+use Rattle.debugger.specs.Addresses.{address_with_label}
 use Rattle.debugger.proofs.text.put_unchanged.Goals as goal
 
 -- three texts, one after the other; there may be no room for the last
@@ -13,5 +13,5 @@ three (Err fault) old first mid middle next last new a b d = tt
 
 pub returns : goal.returns
 returns c =
-    three c.extend_from_slice-2.result c.args.text.now.items (codes "no turn has changed ") c.extend_from_slice.new.self.items (labelled_address c.args.labels.now c.args.address) c.put_address.new.text.items (10 ∷ []) c.extend_from_slice-2.new.self.items
+    three c.extend_from_slice-2.result c.args.text.now.items (codes "no turn has changed ") c.extend_from_slice.new.self.items (address_with_label c.args.labels.now c.args.address) c.put_address.new.text.items (10 ∷ []) c.extend_from_slice-2.new.self.items
     c.in_ok-extend_from_slice.ensures.items c.in_ok-put_address.ensures c.extend_from_slice-2.ensures.items

@@ -1,10 +1,9 @@
 use Rattle.std.proofs.Common.{◌≡◌, ◌<◌, ℕ, List, [], All, None, Some, arith, false, get_or, inl, length, map, subst, sym}
-use Rattle.std.proofs.lemmas.List.{get_or-map, length-map}
-use Rattle.std.proofs.lemmas.List.Elements.{All-push}
+use Rattle.std.proofs.lemmas.List.{get_or-map, get_or_default, length-map}
+use Rattle.std.proofs.lemmas.List.Elements.{All-push, all_zip_more}
 use Rattle.std.proofs.lemmas.Option.{slice_get-get_or}
 use Rattle.z80dev_disk.specs.Words.{own_name, is_wild}
 use Rattle.disk_jobs.specs.Private.Names.{IsBadName}
-use Rattle.shared_lines.proofs.In_order.{one_more}
 use Rattle.disk_jobs.proofs.names.own_names.Goals as goal
 
 pub returns-in-None-clause-names : goal.returns-in-None-clause-names
@@ -29,4 +28,8 @@ loop-path-preserved c =
     let k = c.loop-path.path-index in
     let lt : k < length words = omega (arith, c.loop-path-test.true, length-map c.args.paths.now (λ w. w.now)) in
     let at = get_or-map (λ w. w.now) c.args.paths.now k _ [] c.loop-path-test.true in
-    (one_more (λ w n. own_name w ≡ Some n) words k [] c.loop-path.names.items c.push.new.self.items c.in-Some.name lt c.loop-path.invariant.0 (subst (λ w. own_name w ≡ Some c.in-Some.name) (sym at) (sym c.in-Some.ensures.name)) c.in-Ok.ensures.items, subst (All (λ name. is_wild name ≡ false)) (sym c.in-Ok.ensures.items) (All-push (λ name. is_wild name ≡ false) c.loop-path.names.items c.in-Some.name c.loop-path.invariant.1 c.in-Some.ensures.plain))
+    let path = get_or words k [] in
+    let more = all_zip_more (λ w n. own_name w ≡ Some n) words c.loop-path.names.items k path c.in-Some.name lt (get_or_default words k [] path lt) c.loop-path.invariant.0 (subst (λ w. own_name w ≡ Some c.in-Some.name) (sym at) (sym c.in-Some.ensures.name)) in (
+      rw c.in-Ok.ensures.items more,
+      subst (All (λ name. is_wild name ≡ false)) (sym c.in-Ok.ensures.items) (All-push (λ name. is_wild name ≡ false) c.loop-path.names.items c.in-Some.name c.loop-path.invariant.1 c.in-Some.ensures.plain),
+    )

@@ -1,9 +1,9 @@
 use Rattle.std.proofs.Common.{◌≡◌, ◌<◌, ℕ, List, [], None, Some, arith, get_or, inl, length, map, subst, sym}
-use Rattle.std.proofs.lemmas.List.{get_or-map, length-map}
+use Rattle.std.proofs.lemmas.List.{get_or-map, get_or_default, length-map}
+use Rattle.std.proofs.lemmas.List.Elements.{all_zip_more}
 use Rattle.std.proofs.lemmas.Option.{slice_get-get_or}
 use Rattle.z80dev_disk.specs.Words.{pattern_of}
 use Rattle.disk_jobs.specs.Private.Names.{IsBadName}
-use Rattle.shared_lines.proofs.In_order.{one_more}
 use Rattle.disk_jobs.proofs.names.patterns_of.Goals as goal
 
 pub returns-in-None : goal.returns-in-None
@@ -28,4 +28,5 @@ loop-word-preserved c =
     let k = c.loop-word.word-index in
     let lt : k < length words = omega (arith, c.loop-word-test.true, length-map c.args.words.now (λ w. w.now)) in
     let at = get_or-map (λ w. w.now) c.args.words.now k _ [] c.loop-word-test.true in
-    one_more (λ w n. pattern_of w ≡ Some n) words k [] c.loop-word.patterns.items c.push.new.self.items c.in-Some.pattern lt c.loop-word.invariant (subst (λ w. pattern_of w ≡ Some c.in-Some.pattern) (sym at) (sym c.in-Some.ensures)) c.in-Ok.ensures.items
+    let word = get_or words k [] in
+    rw c.in-Ok.ensures.items (all_zip_more (λ w n. pattern_of w ≡ Some n) words c.loop-word.patterns.items k word c.in-Some.pattern lt (get_or_default words k [] word lt) c.loop-word.invariant (subst (λ w. pattern_of w ≡ Some c.in-Some.pattern) (sym at) (sym c.in-Some.ensures)))

@@ -1,6 +1,7 @@
 use Rattle.std.proofs.Common.{◌<◌, ◌∙◌, List, ℕ, [], length, map, get_or, refl, sym, subst, arith}
-use Rattle.std.proofs.lemmas.List.{get_or-map, length-map, map_push}
-use Rattle.shared_lines.proofs.In_order.{one_more}
+use Rattle.std.proofs.lemmas.List.{get_or-map, get_or_default, length-map, map_push}
+use Rattle.std.proofs.lemmas.List.Elements.{all_zip_more}
+use Rattle.std.specs.List.{AllZip}
 use Rattle.job_steps.specs.Reading.{IsNotRead, IsRead}
 use Rattle.job_steps.proofs.One_by_one.{one_unread}
 use Rattle.job_steps.proofs.reading.read_all.Goals as goal
@@ -24,10 +25,10 @@ loop-path-preserved g c =
     let k = c.loop-path.path-index in
     let lt : k < length paths = omega (arith, length-map c.args.paths.now (λ path. path.now)) in
     let at = get_or-map (λ path. path.now) c.args.paths.now k _ [] c.loop-path-test.true in
+    let path = get_or paths k [] in
     let read = c.in_ok-text.ensures in
     let bytes = c.in_ok-text.text.items in
-    let is = subst (λ f. IsRead f (get_or paths k []) bytes) c.loop-path.invariant.0 (subst (λ path. IsRead (g.F.Files.folder c.loop-path.files) path bytes) (sym at) read.1) in (
+    let is = subst (λ f. IsRead f path bytes) c.loop-path.invariant.0 (subst (λ p. IsRead (g.F.Files.folder c.loop-path.files) p bytes) (sym at) read.1) in (
       read.0 ∙ c.loop-path.invariant.0,
-      one_more (IsRead old) paths k [] (map (λ text. text.items) c.loop-path.texts.items) (map (λ text. text.items) c.push.new.self.items) bytes lt c.loop-path.invariant.1 is
-          (rw (c.in-Ok.ensures.items, map_push) refl),
+      rw (c.in-Ok.ensures.items, map_push) (all_zip_more (IsRead old) paths (map (λ text. text.items) c.loop-path.texts.items) k path bytes lt (get_or_default paths k [] path lt) c.loop-path.invariant.1 is),
     )

@@ -1,6 +1,6 @@
 use Rattle.std.proofs.Common.{◌≡◌, ◌<◌, ℕ, vec_len, get_or}
-use Rattle.ruler.specs.declared.shape.Statement.TheVariants.{Fixed}
-use Rattle.ruler.specs.Choice.{chosen}
+use Rattle.relax.specs.declared.shape.Statement.TheVariants.{Fixed}
+use Rattle.relax.specs.Choice.{chosen}
 use Rattle.jump_reasons.specs.Private.Gathered.{want_at, want_of}
 use Rattle.jump_reasons.proofs.gathering.wants_of.Given as goal
 

@@ -2,8 +2,8 @@ use Rattle.std.proofs.Common.{◌≡◌, ◌<◌, ◌+◌, [], ◌∙◌, ℕ, f
 use Rattle.std.specs.Option.{option_map_or}
 use Rattle.std.proofs.lemmas.List.{length-drop}
 use Rattle.std.specs.Vec.Iter.{into_iter_items}
-use Rattle.ruler.specs.declared.shape.Statement.TheVariants.{Fixed, Jump}
-use Rattle.ruler.specs.Choice.{chosen}
+use Rattle.relax.specs.declared.shape.Statement.TheVariants.{Fixed, Jump}
+use Rattle.relax.specs.Choice.{chosen}
 use Rattle.jump_reasons.specs.Private.Gathered.{IsDescribed, items_at}
 use Rattle.jump_reasons.proofs.Described.{described-more, described-skip, first_left, not_listed, not_listed_short, listed, described}
 use Rattle.jump_reasons.proofs.long_jumps.describe_all.Goals as goal

@@ -1,6 +1,6 @@
 use Rattle.std.proofs.Common.{◌≡◌, drop, length}
 use Rattle.std.specs.Vec.Iter.{into_iter_items, into_iter_len}
-use Rattle.ruler.specs.Choice.{chosen}
+use Rattle.relax.specs.Choice.{chosen}
 use Rattle.jump_reasons.specs.Private.Gathered.{AreDescribed}
 use Rattle.jump_reasons.proofs.long_jumps.describe_all.Given as goal
 

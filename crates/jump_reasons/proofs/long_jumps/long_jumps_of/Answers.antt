@@ -3,9 +3,9 @@ use Rattle.std.proofs.Math.Path.{fun_ext}
 use Rattle.std.proofs.lemmas.List.Elements.{All-weaker}
 use Rattle.std.proofs.lemmas.List.{take_all}
 use Rattle.std.proofs.lemmas.List.Sorted.{All-permutation, IsNonDecreasingBy-from_sort_by_key, IsPermutation-map, answers_always, ties_still_rise}
-use Rattle.ruler.specs.Choice.{chosen}
-use Rattle.ruler.proofs.Sizes.{chosen-replicate}
-use Rattle.ruler.specs.declared.shape.Statement.{Statement}
+use Rattle.relax.specs.Choice.{chosen}
+use Rattle.relax.proofs.Sizes.{chosen-replicate}
+use Rattle.relax.specs.declared.shape.Statement.{Statement}
 use Rattle.relax.specs.Growth.{IsForcing, after}
 use Rattle.std.specs.List.Sorted.{IsPermutation}
 use Rattle.jump_reasons.specs.Private.Gathered.{AreBytesBefore, AreWants, gathered, items_at, want_at}

@@ -1,9 +1,9 @@
 use Rattle.std.proofs.Common.{◌≡◌, ◌+◌, ◌∙◌, arith}
 use Rattle.std.proofs.lemmas.List.{length-set, get_or_read}
-use Rattle.ruler.specs.declared.shape.Statement.TheVariants.{Fixed}
-use Rattle.ruler.specs.Choice.{chosen, size_at}
-use Rattle.ruler.proofs.Places.{bytes-next}
-use Rattle.ruler.proofs.Sizes.{bytes-bound, size-read}
+use Rattle.relax.specs.declared.shape.Statement.TheVariants.{Fixed}
+use Rattle.relax.specs.Choice.{chosen, size_at}
+use Rattle.relax.proofs.Places.{bytes-next}
+use Rattle.relax.proofs.Sizes.{bytes-bound, size-read}
 use Rattle.jump_reasons.proofs.Members.{places-first, places-more}
 use Rattle.jump_reasons.proofs.places.bytes_before.Goals as goal
 

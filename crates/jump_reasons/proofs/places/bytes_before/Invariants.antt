@@ -1,5 +1,5 @@
 use Rattle.std.proofs.Common.{◌≡◌, ◌≤◌, ◌+◌, ℕ, length, get_or}
-use Rattle.ruler.specs.Choice.{chosen, bytes_before}
+use Rattle.relax.specs.Choice.{chosen, bytes_before}
 use Rattle.jump_reasons.proofs.places.bytes_before.Given as goal
 
 abbrev pub invariant-loop-k : goal.invariant-loop-k

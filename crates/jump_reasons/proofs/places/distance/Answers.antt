@@ -1,6 +1,6 @@
 use Rattle.std.proofs.Common.{arith}
 use Rattle.std.proofs.lemmas.Bool.{le-ltb}
-use Rattle.ruler.proofs.Sizes.{bytes-bound}
+use Rattle.relax.proofs.Sizes.{bytes-bound}
 use Rattle.jump_reasons.proofs.places.distance.Goals as goal
 
 pub returns-else-from-to : goal.returns-else-from-to

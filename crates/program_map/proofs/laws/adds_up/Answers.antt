@@ -1,6 +1,6 @@
 use Rattle.program_map.proofs.Adding_up.{all_add, bytes_add, end_is, jumps_add}
 use Rattle.program_map.proofs.Counting.{jumps_counted}
-use Rattle.ruler.specs.Choice.{Choice}
+use Rattle.relax.specs.Choice.{Choice}
 use Rattle.relax.specs.Growth.{after}
 use Rattle.zlink.specs.File.Objects.{placed_shape}
 use Rattle.zlink.specs.Program.Whole.{program}

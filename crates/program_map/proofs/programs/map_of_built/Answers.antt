@@ -1,5 +1,5 @@
 use Rattle.std.proofs.Common.{◌≡◌, ◌∙◌, ◌+◌, Some, ap, sym, subst, arith, map, length, vec_len}
-use Rattle.ruler.specs.Choice.{total}
+use Rattle.relax.specs.Choice.{total}
 use Rattle.zlink.specs.File.Objects.{placed_shape}
 use Rattle.zlink.specs.File.Places.{ArePlaces}
 use Rattle.zlink.specs.Program.Whole.{program}

@@ -1,6 +1,6 @@
 use Rattle.std.proofs.Common.{◌≡◌, ◌∙◌, None, map, subst, sym, vec_len}
 use Rattle.std.proofs.lemmas.Result.{IfOk-weaker}
-use Rattle.ruler.specs.Choice.{total}
+use Rattle.relax.specs.Choice.{total}
 use Rattle.zlink.specs.File.Places.{ArePlaces}
 use Rattle.program_map.specs.Sums.{IsWholeMap}
 use Rattle.program_map.proofs.Parting.{vec_length}

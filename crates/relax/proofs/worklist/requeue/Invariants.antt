@@ -1,5 +1,5 @@
 use Rattle.std.proofs.Common.{◌≡◌, ℕ, ◌+◌, ◌<◌, ◌≤◌, true, false}
-use Rattle.ruler.specs.Choice.{chosen}
+use Rattle.relax.specs.Choice.{chosen}
 use Rattle.relax.specs.Private.Worklist.{statement_of, target_of, PassesOver, pending_count}
 use Rattle.relax.proofs.worklist.requeue.Given as goal
 

@@ -4,4 +4,4 @@ use Rattle.report_texts.specs.Printed.{report_text}
 use Rattle.report_texts.proofs.printing.put_reports.Given as goal
 
 abbrev pub invariant-loop-report : goal.invariant-loop-report
-invariant-loop-report l = l.out.items ++ flat_map (report_text l.form) (drop l.report-index l.reports) ≡ l.fn.out.items ++ flat_map (report_text l.form) l.reports
+invariant-loop-report l = l.out.items ++ flat_map (report_text l.files l.form) (drop l.report-index l.reports) ≡ l.fn.out.items ++ flat_map (report_text l.files l.form) l.reports

@@ -1,6 +1,6 @@
 use Rattle.std.proofs.Common.{◌≡◌, ◌<◌, ◌≤◌, ℕ, suc}
 use Rattle.std.specs.Prelude.{slice_index}
-use Rattle.state_text.specs.Labelled.{last_below}
+use Rattle.state_text.specs.Private.Numbers.{last_below}
 use Rattle.state_text.proofs.labels.fill.Given as goal
 
 abbrev pub invariant-loop-number : goal.invariant-loop-number

@@ -1,7 +1,8 @@
 use Rattle.std.proofs.Common.{rules, ◌≡◌, [], ap, arith, map, sym, ◌∙◌}
 use Rattle.std.specs.Prelude.{slice_index}
 use Rattle.std.proofs.lemmas.List.{length-set}
-use Rattle.state_text.specs.Labelled.{last_at, parts_of}
+use Rattle.state_text.specs.Labelled.{parts_of}
+use Rattle.state_text.specs.Private.Numbers.{last_at}
 use Rattle.state_text.proofs.Numbered.{all_zero, empty, put_one, zeroed}
 use Rattle.state_text.proofs.labels.last_numbers.Goals as goal
 

@@ -1,6 +1,7 @@
 use Rattle.std.proofs.Common.{◌≡◌, ◌+◌, ◌<◌, ℕ, length, map}
 use Rattle.std.specs.Prelude.{slice_index}
-use Rattle.state_text.specs.Labelled.{last_at, parts_of}
+use Rattle.state_text.specs.Labelled.{parts_of}
+use Rattle.state_text.specs.Private.Numbers.{last_at}
 use Rattle.state_text.proofs.labels.last_numbers.Given as goal
 
 -- The numbers so far and the labels that are left make the numbers of all labels.

@@ -6,17 +6,15 @@ pub returns-in_ok-longs_of-in-Ok : goal.returns-in_ok-longs_of-in-Ok
 returns-in_ok-longs_of-in-Ok c =
     let warned = c.in_ok-all_warnings-in-Ok.ensures in
     record {
-      explained = record {
-        behind = c.args.behind.now;
-        are = c.requires.are;
-        building = Ok c.in-Ok.built;
-        built = c.in-Ok.ensures.answer;
-        program = refl;
-        reported = (
-          sum_by (λ n. n) warned.0,
-          record { before = c.args.sources.now.before; lines = c.requires.before; counts = warned.0; each = warned.1; all = refl },
-          warned.2,
-        );
-      };
-      unasked = c.in_ok-longs_of-in-Ok.ensures;
+      behind = c.args.behind.now;
+      are = c.requires.are;
+      building = Ok c.in-Ok.built;
+      built = c.in-Ok.ensures.answer;
+      program = refl;
+      reported = (
+        sum_by (λ n. n) warned.0,
+        record { before = c.args.sources.now.before; lines = c.requires.before; counts = warned.0; each = warned.1; all = refl },
+        warned.2,
+      );
+      long = c.in_ok-longs_of-in-Ok.ensures;
     }

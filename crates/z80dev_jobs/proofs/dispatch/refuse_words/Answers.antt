@@ -7,7 +7,7 @@ pub returns : goal.returns
 returns g c =
     let old = g.E.Sink.stream c.args.errors.now in
     let new = g.E.Sink.stream c.tell.new.sink in
-    let kind = c.kind-2.ensures in
+    let kind = c.kind.ensures in
     let bytes = c.as_bytes-in_default-kind.result.now in
     inl (inr (
       (λ asks. elim asks [ inl h ↦ c.in_default-kind.not-DisplayHelp (kind ∙ h) | inr v ↦ c.in_default-kind.not-DisplayVersion (kind ∙ v) ]),

@@ -1,7 +1,7 @@
 use Rattle.std.proofs.Common.{◌≡◌, ℕ, List, length, map, slice_index, ap, subst, ◌∙◌, arith}
 use Rattle.std.proofs.Math.Path.{fun_ext}
-use Rattle.ruler.specs.declared.shape.Statement.{Statement as Sized}
-use Rattle.ruler.specs.Choice.{IsShape, chosen, place}
+use Rattle.relax.specs.declared.shape.Statement.{Statement as Sized}
+use Rattle.relax.specs.Choice.{IsShape, chosen, place}
 use Rattle.relax.specs.declared.growth.Growth.{Growth}
 use Rattle.relax.specs.declared.growth.Verdict.TheVariants.{Best}
 use Rattle.relax.specs.Growth.{IsGrowth, after}

@@ -1,8 +1,8 @@
 use Rattle.std.proofs.Common.{◌≡◌, true, Err, Ok, ap, refl, slice_set, subst, sym, ◌∙◌}
 use Rattle.cpm_directory.specs.declared.fault.DiskFault.TheVariants.{Fault}
 use Rattle.cpm_directory.specs.Rules.{IsSound}
-use Rattle.cpm_operations.specs.Kept.{IsGoodPut}
-use Rattle.cpm_operations.specs.Steps.{creation}
+use Rattle.cpm_disk.specs.Kept.{IsGoodPut}
+use Rattle.cpm_disk.specs.Steps.{creation}
 use Rattle.cpm_disk.specs.Calls.{Changed}
 use Rattle.cpm_disk.specs.Files.{IsFile, OthersAreSame}
 use Rattle.cpm_disk.specs.Image.{directory}

@@ -2,8 +2,8 @@ use Rattle.std.proofs.Common.{◌≡◌, true, Err, Ok, ap, length, inr, refl, s
 use Rattle.cpm_directory.specs.declared.fault.DiskFault.TheVariants.{Fault}
 use Rattle.cpm_directory.specs.Entries.{at}
 use Rattle.cpm_directory.specs.Rules.{IsSound}
-use Rattle.cpm_operations.specs.Kept.{StaysSound}
-use Rattle.cpm_operations.specs.Steps.{erasure, after_erasure}
+use Rattle.cpm_disk.specs.Kept.{StaysSound}
+use Rattle.cpm_disk.specs.Steps.{erasure, after_erasure}
 use Rattle.cpm_disk.specs.Calls.{Changed, PartlyChanged}
 use Rattle.cpm_disk.specs.Files.{IsMatched, OthersAreSame}
 use Rattle.cpm_disk.specs.Image.{directory}

@@ -2,8 +2,8 @@ use Rattle.std.proofs.Common.{All, ◌≡◌, true, Err, Ok, ap, length, inr, re
 use Rattle.cpm_directory.specs.declared.fault.DiskFault.TheVariants.{Fault}
 use Rattle.cpm_directory.specs.Entries.{at}
 use Rattle.cpm_directory.specs.Rules.{IsSound}
-use Rattle.cpm_operations.specs.Kept.{StaysSound}
-use Rattle.cpm_operations.specs.Steps.{marking, after_marking}
+use Rattle.cpm_disk.specs.Kept.{StaysSound}
+use Rattle.cpm_disk.specs.Steps.{marking, after_marking}
 use Rattle.cpm_disk.specs.Calls.{Changed, PartlyChanged}
 use Rattle.cpm_disk.specs.Files.{IsMarkedFile, IsMatched, OthersAreSame}
 use Rattle.cpm_disk.specs.Image.{directory}

@@ -1,5 +1,5 @@
 use Rattle.std.proofs.Common.{map, take}
-use Rattle.ruler.specs.Choice.{chosen}
+use Rattle.relax.specs.Choice.{chosen}
 use Rattle.zmo_module.specs.Modules.{module_of}
 use Rattle.zlink.specs.Program.Laws.{statement_count}
 use Rattle.zlink.specs.Program.Whole.{program}

@@ -1,5 +1,5 @@
 use Rattle.std.proofs.Common.{ℕ, ◌++◌, List, slice_index, ap, ◌∙◌, arith, append_assoc}
-use Rattle.ruler.specs.Choice.{chosen}
+use Rattle.relax.specs.Choice.{chosen}
 use Rattle.zmo_module.specs.Modules.{ModuleStatement}
 use Rattle.zlink.specs.Private.Pieces.{IsSizedPiece}
 use Rattle.zlink.proofs.Files.Laid.{laid-step}

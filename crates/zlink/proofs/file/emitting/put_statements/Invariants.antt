@@ -1,5 +1,5 @@
 use Rattle.std.proofs.Common.{map, slice_index, take}
-use Rattle.ruler.specs.Choice.{chosen}
+use Rattle.relax.specs.Choice.{chosen}
 use Rattle.zmo_module.specs.Modules.{statement_of}
 use Rattle.zlink.specs.Private.Pieces.{Appends, AreLaid, IsSizedPiece}
 use Rattle.zlink.proofs.file.emitting.put_statements.Given as goal

@@ -1,6 +1,6 @@
 use Rattle.std.proofs.Common.{◌≡◌, ◌+◌, ◌++◌, map, length, sym, ap, ◌∙◌, arith}
 use Rattle.std.proofs.lemmas.List.{take_all}
-use Rattle.ruler.specs.Choice.{chosen}
+use Rattle.relax.specs.Choice.{chosen}
 use Rattle.zmo_module.specs.Modules.{module_of, statement_of}
 use Rattle.zlink.specs.Private.Marked.{marked_from}
 use Rattle.zlink.proofs.Files.Growing.{count-more, front-fits, grown-is, modules-step, statements_in}

@@ -1,8 +1,8 @@
 use Rattle.std.proofs.Common.{◌≡◌, ◌+◌, slice_index, ap, ◌∙◌, ◌++◌, ◌∷◌, [], arith}
 use Rattle.std.proofs.lemmas.Option.{slice_get-get_or}
-use Rattle.ruler.specs.declared.shape.Statement.TheVariants.{Fixed}
-use Rattle.ruler.specs.Choice.{chosen, place}
-use Rattle.ruler.proofs.Places.{bytes-zero, place-next}
+use Rattle.relax.specs.declared.shape.Statement.TheVariants.{Fixed}
+use Rattle.relax.specs.Choice.{chosen, place}
+use Rattle.relax.proofs.Places.{bytes-zero, place-next}
 use Rattle.zlink.proofs.Files.Tables.{table-push}
 use Rattle.zlink.proofs.file.layout.places_of.Goals as goal
 

@@ -1,5 +1,5 @@
 use Rattle.std.proofs.Common.{◌≡◌, ℕ, ◌+◌, ◌*◌, ◌≤◌, vec_len, slice_index}
-use Rattle.ruler.specs.Choice.{chosen, place}
+use Rattle.relax.specs.Choice.{chosen, place}
 use Rattle.zlink.proofs.file.layout.places_of.Given as goal
 
 -- the addresses up to statement k are in the list, and the next one is known

@@ -1,6 +1,6 @@
 use Rattle.std.proofs.Common.{◌∷◌, [], ◌++◌, true, false, sym, ap, ◌∙◌, arith}
 use Rattle.std.proofs.lemmas.List.{append-nil}
-use Rattle.ruler.specs.Choice.{chosen}
+use Rattle.relax.specs.Choice.{chosen}
 use Rattle.zlink.proofs.Files.Growing.{marked-step}
 use Rattle.zlink.proofs.file.layout.put_grown.Goals as goal
 use Rattle.zlink.proofs.file.layout.put_grown.Goals.{then-is_grown+in_ok-number+in_ok-push, else-is_grown}

@@ -1,5 +1,5 @@
 use Rattle.std.proofs.Common.{◌≡◌, ◌++◌, map, take}
-use Rattle.ruler.specs.Choice.{chosen}
+use Rattle.relax.specs.Choice.{chosen}
 use Rattle.zmo_module.specs.Modules.{statement_of}
 use Rattle.zlink.specs.Private.Marked.{marked_from}
 use Rattle.zlink.proofs.file.layout.put_grown.Given as goal

@@ -1,14 +1,15 @@
-use Rattle.std.proofs.Common.{◌≡◌, ◌≤◌, ◌+◌, [], ℕ}
-use Rattle.cpm_run.specs.Looks.{Attention}
+use Rattle.std.proofs.Common.{◌≡◌, ◌≤◌, ◌<◌, ◌+◌, [], ℕ, Some}
+use Rattle.cpm_run.specs.Looks.{Attention, waits_after}
 use Rattle.cpm_run.specs.Play.{PlayState}
 use Rattle.cpm_run.specs.Seat.{Seat}
-use Rattle.cpm_run.specs.Private.Playing.{IsStill, Waits, Watched}
+use Rattle.cpm_run.specs.Private.Playing.{MakesNoStep, Waits, Watched}
 use Rattle.cpm_run.proofs.playing.state.Playing.await_byte.Given as goal
 
-abbrev pub invariant-loop : goal.invariant-loop
-invariant-loop g l = IsStill l.initial.self l.self
+abbrev pub invariant-loop-look : goal.invariant-loop-look
+invariant-loop-look g l = MakesNoStep l.initial.self l.self
     × (l.self.ahead.items ≡ l.initial.self.ahead.items)
     × ((limit : ℕ) (start : PlayState _) (before : Seat) → Waits g.S.Sectors.sectors g.S.Sectors.faults limit start before l.initial.self (g.K.Station.seat l.initial.station) → l.initial.self.ahead.items ≡ []
     → Waits g.S.Sectors.sectors g.S.Sectors.faults limit start before l.self (g.K.Station.seat l.station))
-    × ((start : PlayState _) (before : Seat) (a : Attention) → Watched g.S.Sectors.sectors g.S.Sectors.faults start before l.initial.self (g.K.Station.seat l.initial.station) a → l.initial.self.turns ≤ a.last + 4000000
-    → (b : Attention) × Watched g.S.Sectors.sectors g.S.Sectors.faults start before l.self (g.K.Station.seat l.station) b × (l.self.turns ≤ b.last + 4000000))
+    × ((start : PlayState _) (before : Seat) (a : Attention) → Watched g.S.Sectors.sectors g.S.Sectors.faults start before l.initial.self (g.K.Station.seat l.initial.station) a → l.initial.self.bdos.terminal.console.output ≡ Some [] → l.initial.self.ahead.items ≡ []
+    → l.initial.self.turns < l.initial.self.looked + 2000000
+    → (b : Attention) × Watched g.S.Sectors.sectors g.S.Sectors.faults start before l.self (g.K.Station.seat l.station) b × (l.look ≤ waits_after l.initial.self.turns b.events) × (l.self.bdos.terminal.console.output ≡ Some []) × (l.self.turns < l.self.looked + 2000000))

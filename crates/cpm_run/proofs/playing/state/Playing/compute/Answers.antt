@@ -31,21 +31,21 @@ returns-in_default-clause-goes g c = λ start shown before.
     goes c.run-made.result.0 start (state_of c.args.self.now shown) _ before (paused _ _ c.args.most c.run-made.result.0 c.run-made.result.1 old new c.args.self.now.bdos c.run-made.ensures (c.in_default.not-Halted, c.in_default.not-Undocumented))
 
 pub returns-in-Halted-clause-looks : goal.returns-in-Halted-clause-looks
-returns-in-Halted-clause-looks g c = λ start shown a attends none soon.
+returns-in-Halted-clause-looks g c = λ start shown a attends none soon held.
     let old = machine c.args.self.now.cpu c.args.self.now.memory in
     let new = machine c.run-made.new.cpu c.run-made.new.memory in
     let made = ran_as c.args.most c.run-made.result.0 c.run-made.result.1 Stop.Halted old new c.in-Halted.is c.run-made.ensures in
-    ended_on _ _ c.run-made.result.0 Step.Halted Why.Halted old new start (state_of c.args.self.now shown) c.args.self.now.bdos a refl none (let m = made.0 in omega (arith, soon, m)) attends made.1
+    ended_on _ _ c.run-made.result.0 Step.Halted Why.Halted old new start (state_of c.args.self.now shown) c.args.self.now.bdos a refl none (let m = made.0 in omega (arith, soon, m)) held attends made.1
 
 pub returns-in-Undocumented-clause-looks : goal.returns-in-Undocumented-clause-looks
-returns-in-Undocumented-clause-looks g c = λ start shown a attends none soon.
+returns-in-Undocumented-clause-looks g c = λ start shown a attends none soon held.
     let old = machine c.args.self.now.cpu c.args.self.now.memory in
     let new = machine c.run-made.new.cpu c.run-made.new.memory in
     let made = ran_as c.args.most c.run-made.result.0 c.run-made.result.1 Stop.Undocumented old new c.in-Undocumented.is c.run-made.ensures in
-    ended_on _ _ c.run-made.result.0 Step.Undocumented Why.Undocumented old new start (state_of c.args.self.now shown) c.args.self.now.bdos a refl none (let m = made.0 in omega (arith, soon, m)) attends made.1
+    ended_on _ _ c.run-made.result.0 Step.Undocumented Why.Undocumented old new start (state_of c.args.self.now shown) c.args.self.now.bdos a refl none (let m = made.0 in omega (arith, soon, m)) held attends made.1
 
 pub returns-in_default-clause-looks : goal.returns-in_default-clause-looks
-returns-in_default-clause-looks g c = λ start shown a attends none soon.
+returns-in_default-clause-looks g c = λ start shown a attends none soon held.
     let old = machine c.args.self.now.cpu c.args.self.now.memory in
     let new = machine c.run-made.new.cpu c.run-made.new.memory in
-    paused_on _ _ c.args.most c.run-made.result.0 c.run-made.result.1 old new start (state_of c.args.self.now shown) c.args.self.now.bdos a none soon attends c.run-made.ensures (c.in_default.not-Halted, c.in_default.not-Undocumented)
+    paused_on _ _ c.args.most c.run-made.result.0 c.run-made.result.1 old new start (state_of c.args.self.now shown) c.args.self.now.bdos a none soon held attends c.run-made.ensures (c.in_default.not-Halted, c.in_default.not-Undocumented)

@@ -5,7 +5,7 @@ use Rattle.cpm_run.specs.Private.Playing.{Begins, Rests}
 use Rattle.cpm_run.proofs.playing.state.Playing.play.Given as goal
 
 abbrev pub invariant-loop-end : goal.invariant-loop-end
-invariant-loop-end g l = (l.self.turns ≤ l.limit) × (l.self.looked ≤ l.self.turns)
+invariant-loop-end g l = (l.self.turns ≤ l.limit)
     × ((start : PlayState _) (before : Seat) → Begins g.S.Sectors.sectors g.S.Sectors.faults start before l.initial.self (g.K.Station.seat l.initial.station) → Begins g.S.Sectors.sectors g.S.Sectors.faults start before l.self (g.K.Station.seat l.station))
     × ((start : PlayState _) (before : Seat) → Rests g.S.Sectors.sectors g.S.Sectors.faults start before l.initial.self (g.K.Station.seat l.initial.station) → Rests g.S.Sectors.sectors g.S.Sectors.faults start before l.self (g.K.Station.seat l.station))
 

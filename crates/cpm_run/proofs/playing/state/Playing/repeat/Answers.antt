@@ -1,8 +1,8 @@
-use Rattle.std.proofs.Common.{◌≡◌, ◌≤◌, ◌+◌, ◌∙◌, ◌∷◌, [], Err, ap, subst, sym, arith}
+use Rattle.std.proofs.Common.{◌≡◌, ◌≤◌, ◌+◌, ◌∙◌, ◌∷◌, [], Err, ap, length, subst, sym, arith}
 use Rattle.std.proofs.lemmas.List.{take_all}
 use Rattle.cpm_run.specs.declared.arriving.PlayEnd.TheVariants as play
 use Rattle.cpm_run.specs.Play.{FollowsRecord}
-use Rattle.cpm_run.proofs.Replayed.{KeepsTo, follows, in_time, may_go, recorded_at, repeats_to, taken_all, taken_none, took_next, went_last, went_to}
+use Rattle.cpm_run.proofs.Replayed.{KeepsTo, follows, in_time, may_go, one_came, quiet_still, recorded_at, repeats_to, taken_all, taken_none, took_next, went_last, went_to}
 use Rattle.cpm_run.proofs.Sitting.{moved, unasked_on}
 use Rattle.cpm_run.proofs.playing.state.Playing.repeat.Goals as goal
 
@@ -51,6 +51,13 @@ loop-arrival-preserved g c = (
   λ start before first.
       let gone = c.in_default.ensures.stands start before (c.loop-arrival.invariant.3 start before first) in
       moved _ _ start before _ c.go_to.new.self _ gone (c.take_in.ensures.came start gone.shown gone.plays) c.take_in.ensures.ahead,
+  λ none_yet.
+      let was = c.loop-arrival.invariant.4 none_yet in
+      let same = ap length c.in_default.ensures.arrivals in
+      let one = one_came c.go_to.new.self.turns (recorded_at c.args.recorded.now c.loop-arrival.arrival-index).byte c.go_to.new.self.arrivals.items _
+      (c.take_in.ensures.arrivals ∙ taken_all c.go_to.new.self.turns ((recorded_at c.args.recorded.now c.loop-arrival.arrival-index).byte ∷ []) c.take_in.result c.go_to.new.self.arrivals.items (sym c.is_err.ensures.value ∙ c.if-is_err.false)) in
+      omega (arith, was, same, one),
+  λ before quiet. quiet_still before _ c.go_to.new.self c.take_in.new.self c.take_in.ensures.ahead (c.in_default.ensures.told before (c.loop-arrival.invariant.5 before quiet)),
 )
 
 pub returns-in-Ok-clause-follows : goal.returns-in-Ok-clause-follows
@@ -73,3 +80,23 @@ returns-in-Err-go_to-clause-follows g c = λ none_yet at_start order.
 
 pub returns-in-Err-go_to-clause-stands : goal.returns-in-Err-go_to-clause-stands
 returns-in-Err-go_to-clause-stands g c = λ start before first. repeats_to _ _ Unit c.args.limit c.args.last c.in-Err-go_to.end start before _ _ (c.in-Err-go_to.ensures.stands start before (c.loop-arrival.invariant.3 start before first))
+
+pub returns-then-is_err-clause-short : goal.returns-then-is_err-clause-short
+returns-then-is_err-clause-short g c = λ none_yet is.
+    let was = c.loop-arrival.invariant.4 none_yet in
+    let same = ap length c.in_default.ensures.arrivals in
+    let none = ap length (c.take_in.ensures.arrivals ∙ taken_none c.go_to.new.self.turns ((recorded_at c.args.recorded.now c.loop-arrival.arrival-index).byte ∷ []) c.take_in.result c.go_to.new.self.arrivals.items (sym c.is_err.ensures.value ∙ c.if-is_err.true)) in
+    let inside = c.loop-arrival-test.true in
+    omega (arith, was, same, none, inside)
+
+pub returns-in-Err-clause-short : goal.returns-in-Err-clause-short
+returns-in-Err-clause-short g c = λ none_yet is. absurd (c.in-Err.ensures.memory (ap Err is))
+
+pub returns-in-Ok-clause-short : goal.returns-in-Ok-clause-short
+returns-in-Ok-clause-short g c = λ none_yet is. absurd (let no : play.Left ≡ play.NoMemory = is in cc)
+
+pub returns-in-Err-go_to-clause-short : goal.returns-in-Err-go_to-clause-short
+returns-in-Err-go_to-clause-short g c = λ none_yet is. absurd (c.in-Err-go_to.ensures.memory (ap Err is))
+
+pub returns-then-is_err-clause-told : goal.returns-then-is_err-clause-told
+returns-then-is_err-clause-told g c = λ before quiet. quiet_still before _ c.go_to.new.self c.take_in.new.self c.take_in.ensures.ahead (c.in_default.ensures.told before (c.loop-arrival.invariant.5 before quiet))

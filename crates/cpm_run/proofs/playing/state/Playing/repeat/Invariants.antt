@@ -1,7 +1,7 @@
-use Rattle.std.proofs.Common.{◌≡◌, ◌≤◌, []}
+use Rattle.std.proofs.Common.{◌≡◌, ◌≤◌, [], length}
 use Rattle.cpm_run.specs.Play.{IsInOrder, PlayState}
 use Rattle.cpm_run.specs.Seat.{Seat}
-use Rattle.cpm_run.specs.Private.Playing.{IsUnasked, Stands}
+use Rattle.cpm_run.specs.Private.Playing.{IsQuiet, IsUnasked, Stands}
 use Rattle.cpm_run.proofs.Replayed.{KeepsTo}
 use Rattle.cpm_run.proofs.playing.state.Playing.repeat.Given as goal
 
@@ -9,3 +9,5 @@ abbrev pub invariant-loop-arrival : goal.invariant-loop-arrival
 invariant-loop-arrival g l = (l.self.turns ≤ l.limit) × IsUnasked (g.K.Station.seat l.initial.station) (g.K.Station.seat l.station)
     × (l.initial.self.arrivals.items ≡ [] → l.initial.self.turns ≡ 0 → IsInOrder l.recorded l.last → KeepsTo l.recorded l.last l.arrival-index l.self.turns l.self.arrivals.items)
     × ((start : PlayState _) (before : Seat) → Stands g.S.Sectors.sectors g.S.Sectors.faults start before l.initial.self (g.K.Station.seat l.initial.station) → Stands g.S.Sectors.sectors g.S.Sectors.faults start before l.self (g.K.Station.seat l.station))
+    × (l.initial.self.arrivals.items ≡ [] → length l.self.arrivals.items ≡ l.arrival-index)
+    × ((before : Seat) → IsQuiet before l.initial.self (g.K.Station.seat l.initial.station) → IsQuiet before l.self (g.K.Station.seat l.station))

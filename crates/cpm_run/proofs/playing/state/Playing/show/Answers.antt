@@ -1,11 +1,13 @@
-use Rattle.std.proofs.Common.{sym, ap, subst, refl, ◌∙◌, ◌++◌, List, ℕ}
+use Rattle.std.proofs.Common.{Result, Some, inl, inr, sym, ap, subst, refl, ◌∙◌, ◌++◌, List, ℕ}
 use Rattle.z80_cpu.specs.State.{machine}
 use Rattle.cpm_console.specs.Dialog.{Dialog}
 use Rattle.cpm_bdos.specs.System.{System}
 use Rattle.cpm_run.specs.Play.{PlaysOn}
 use Rattle.cpm_run.specs.Play.PlaysOn.{shows}
-use Rattle.cpm_run.specs.Private.Playing.{state_of}
-use Rattle.cpm_run.proofs.Looking.{showed, watched_still}
+use Rattle.cpm_run.specs.Private.Playing.{ShowsRest, state_of}
+use Rattle.cpm_run.specs.declared.station.StationFault.{StationFault}
+use Rattle.std.proofs.lemmas.Result.{err_from_is_err_and}
+use Rattle.cpm_run.proofs.Looking.{unasked_not_showed, unasked_showed}
 use Rattle.cpm_run.proofs.Sitting.{shown_all}
 use Rattle.cpm_run.proofs.playing.state.Playing.show.Goals as goal
 
@@ -22,9 +24,28 @@ returns-clause-rest g c = (
       (shows bytes start (state_of c.args.self.now shown) before put),
 )
 
-pub returns-clause-looks : goal.returns-clause-looks
-returns-clause-looks g c = λ start before a watched.
-    showed _ _ start before (g.K.Station.seat c.args.station.now) (g.K.Station.seat c.show.new.self) c.args.self.now _ a c.output-put.result.now watched (ap (λ (d : Dialog). d.output) (sym c.console.ensures) ∙ c.output-put.ensures) c.clear_output.ensures refl refl refl refl refl c.in_ok-show.ensures.looks
+pub returns-in_default-clause-events : goal.returns-in_default-clause-events
+returns-in_default-clause-events g c =
+    inr (c.output-put.result.now, ap (λ (d : Dialog). d.output) (sym c.console.ensures) ∙ c.output-put.ensures, (λ rest is. c.in_default.ensures rest (is ∙ ap (λ (l : List ℕ). l ++ rest) (sym c.deref.ensures.value))), refl)
 
-pub returns-in_err-show-clause-looks : goal.returns-in_err-show-clause-looks
-returns-in_err-show-clause-looks g c = λ start before a watched. watched_still _ _ start before (g.K.Station.seat c.args.station.now) (g.K.Station.seat c.show.new.self) c.args.self.now c.args.self.now a watched refl refl refl refl refl refl c.in_err-show.ensures.2
+pub returns-clause-events : goal.returns-clause-events
+returns-clause-events g c = (c.in-Some.rest.now, ap (λ (d : Dialog). d.output) (sym c.console.ensures) ∙ c.output-put.ensures ∙ ap (λ (l : List ℕ). Some l) (c.in-Some.ensures ∙ ap (λ (l : List ℕ). l ++ c.in-Some.rest.now) c.deref.ensures.value), c.in_ok-show.ensures.events)
+
+pub returns-clause-keys : goal.returns-clause-keys
+returns-clause-keys g c = record {
+  coming = c.in_ok-show.ensures.coming;
+  leaves = c.in_ok-show.ensures.leaves;
+  looks = unasked_showed c.in-Some.rest.now _ _ c.in_ok-show.ensures.events;
+}
+
+pub returns-in_err-show-clause-keys : goal.returns-in_err-show-clause-keys
+returns-in_err-show-clause-keys g c = record {
+  coming = c.in_err-show.ensures.0;
+  leaves = c.in_err-show.ensures.1;
+  looks = unasked_not_showed c.in-Some.rest.now _ _ c.in_err-show.ensures.2;
+}
+
+pub returns-in_err-show-clause-events : goal.returns-in_err-show-clause-events
+returns-in_err-show-clause-events g c =
+    let p = err_from_is_err_and c.from_residual.result c.from_residual.ensures.1 in
+    subst (λ (r : Result Unit StationFault). ShowsRest r c.args.self.now (g.K.Station.seat c.args.station.now) (g.K.Station.seat c.show.new.self)) (sym p.1) (inl (c.in-Some.rest.now, ap (λ (d : Dialog). d.output) (sym c.console.ensures) ∙ c.output-put.ensures ∙ ap (λ (l : List ℕ). Some l) (c.in-Some.ensures ∙ ap (λ (l : List ℕ). l ++ c.in-Some.rest.now) c.deref.ensures.value), c.in_err-show.ensures.2))

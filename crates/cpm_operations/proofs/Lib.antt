@@ -1,9 +1,0 @@
-pub mod Entries
-pub mod HighBits
-pub mod Results
-pub mod Sound
-pub mod Kept
-pub mod Placements
-pub mod RecordPlaces
-pub mod Worth
-pub mod Near

@@ -1,4 +1,0 @@
-pub mod Steps
-pub mod Refusals
-pub mod Kept
-pub mod Near

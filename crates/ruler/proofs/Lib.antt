@@ -1,4 +1,0 @@
-pub mod Places
-pub mod Sizes
-pub mod Moves
-pub mod Widening

@@ -1,4 +1,0 @@
-pub mod Choice
-pub mod Ruler
-pub mod Sums
-pub mod Private
