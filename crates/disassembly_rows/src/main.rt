@@ -15,15 +15,17 @@ enum Call {
     Line,
     Text,
     Head,
+    Remarks,
     Count,
     Sentence,
 }
 
 /// The names of all calls.
-const CALLS: [(&str, Call); 5] = [
+const CALLS: [(&str, Call); 6] = [
     ("line", Call::Line),
     ("text", Call::Text),
     ("head", Call::Head),
+    ("remarks", Call::Remarks),
     ("count", Call::Count),
     ("sentence", Call::Sentence),
 ];
@@ -43,6 +45,7 @@ fn answer(row: &mut Row, call: Call) {
         Call::Line => shown::answer_line(row),
         Call::Text => shown::answer_text(row),
         Call::Head => shown::answer_head(row),
+        Call::Remarks => shown::answer_remarks(row),
         Call::Count => shown::answer_count(row),
         Call::Sentence => shown::answer_sentence(row),
     }

@@ -65,6 +65,19 @@ pub(crate) fn answer_head(row: &mut Row) {
     }
 }
 
+/// Prints each line that is only a comment.
+pub(crate) fn answer_remarks(row: &mut Row) {
+    let Some(text) = text_of(row) else {
+        return;
+    };
+    row.write_bytes(b" ");
+    for line in text.as_slice().lines() {
+        if line.starts_with(b";") {
+            show_line(row, line);
+        }
+    }
+}
+
 /// Prints the first line after the head without its comment, and one blank for each of its runs of blanks.
 pub(crate) fn answer_line(row: &mut Row) {
     let Some(text) = text_of(row) else {
