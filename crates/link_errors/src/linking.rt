@@ -17,7 +17,7 @@ use message_texts::Note;
 use report_texts::{Report, Severity, Where};
 use shared_lines::{Refusal, Told};
 use std::alloc::{AllocError, Global};
-use written_lines::Sources;
+use written_lines::{Site, Sources};
 use zlink::{JoinFault, LinkFault, Misfit};
 
 /// The names of errors as a refusal prints them.
@@ -57,7 +57,6 @@ pub(crate) fn error_at(
         at,
         text,
         name: name_of(alloc, refusal)?,
-        about: Vec::new(alloc),
         notes,
     })
 }
@@ -109,17 +108,17 @@ impl<'n, 's, 'f> Named<'n, 's, 'f> {
         }
     }
 
-    /// The line of the EXTRN of a name; 1 if there is none.
-    fn external(&self, source: usize, name: &[u8]) -> u32 {
+    /// The line with the EXTRN of a name; the first line if there is none.
+    fn external(&self, source: usize, name: &[u8]) -> Site<'n> {
         match self.names.get(source) {
-            Some(names) => names.external(name),
-            None => 1,
+            Some(names) => names.site(self.sources, source, name),
+            None => Site::plain(1, self.sources.line(source, 1)),
         }
     }
 
-    /// Whether the EXTRN of a name is in a shared file, so that each source has it.
+    /// Whether the EXTRN of a name is in a shared file, also in the body of a macro there, so that several sources may have it.
     fn is_shared(&self, source: usize, name: &[u8]) -> bool {
-        self.external(source, name) as usize <= self.sources.before
+        self.external(source, name).line as usize <= self.sources.before
     }
 }
 
@@ -272,16 +271,19 @@ fn unresolved(
     count: usize,
 ) -> Result<Report, AllocError> {
     let shown = shown(name);
-    let line = named.external(module, name);
+    let site = named.external(module, name);
     let mut report = error_at(
         alloc,
-        Some(named.sources.named(alloc, module, line, name)?),
+        Some(named.sources.mark(alloc, module, site, name)?),
         format!(in alloc; "`{shown}` is public in no source")?,
         Refusal::Modules(JoinFault::Unresolved(module, external)),
         Some(Note::Help(format!(in alloc;
             "write `PUBLIC {shown}` in the source that has the label, and give that source too"
         )?)),
     )?;
+    named
+        .sources
+        .put_calls(alloc, module, site, &mut report.notes)?;
     if count > 1 {
         report.notes.push(Note::Note(format!(in alloc;
             "this EXTRN is in a shared file, and concerns {count} sources"
@@ -405,7 +407,6 @@ fn plain(alloc: Global, fault: &LinkFault, text: String) -> Result<Report, Alloc
         at: None,
         text,
         name: name_of(alloc, Refusal::of_link(fault))?,
-        about: Vec::new(alloc),
         notes: Vec::new(alloc),
     })
 }
