@@ -56,7 +56,6 @@ fn note_report(
         at,
         text,
         name: String::new(alloc),
-        about: Vec::new(alloc),
         notes,
     })
 }

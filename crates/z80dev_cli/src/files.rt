@@ -2,6 +2,7 @@
 
 mod lock;
 mod part;
+mod taken;
 
 ghost use Rattle.std.specs.Prelude.{◌≡◌, ◌≤◌, IfOk, None, false, length, option_map, string_bytes, true};
 ghost use Rattle.common.specs.declared.limits.TheConstants.{LONGEST_TEXT};
@@ -16,6 +17,7 @@ use std::fs::{self, Metadata};
 use std::io::ErrorKind;
 use std::os::unix::fs::FileTypeExt;
 use streams::{Watched, WatchedSink, WriteFailed, print};
+use taken::Taken;
 use z80dev::{Fault, read_text};
 use z80dev_finish::{Claimed, Files, Placed, Unread};
 
@@ -40,6 +42,8 @@ pub(crate) struct HostFiles<'a> {
     part: Option<Part>,
     /// Whether the last file that took the place of another would have been kept from it by one that was there.
     placed: Option<bool>,
+    /// The files that were read, which are not written over.
+    taken: Taken,
 }
 
 impl<'a> HostFiles<'a> {
@@ -54,6 +58,7 @@ impl<'a> HostFiles<'a> {
             is_spent: false,
             part: None,
             placed: None,
+            taken: Taken::new(rt.alloc()),
         }
     }
 
@@ -84,6 +89,26 @@ impl<'a> HostFiles<'a> {
         self.is_spent = false;
     }
 
+    /// Notes that the file of a path was read.
+    fn note_read(&mut self, path: &str) -> Result<(), AllocError>
+        ensures { self.new ≡ record self.old { taken = self.new.taken } }
+    {
+        self.taken.add(self.rt, path)
+    }
+
+    /// Whether a path is that of a file that was read, or on which the lock is, also if it was written otherwise there. A link to such a file
+    /// is not: what is written takes the place of the link.
+    fn is_input(&self, path: &str) -> bool {
+        let Ok(found) = fs::symlink_metadata(self.rt, path) else {
+            return false;
+        };
+        let is_locked = match &self.lock {
+            Some(lock) => is_file_of(self.rt, &lock.path, &found),
+            None => false,
+        };
+        is_locked || self.taken.has(&found)
+    }
+
     /// Counts a file that took its place; `keep` says whether one that was there would have been kept.
     fn count_replacement(&mut self, keep: bool)
         ensures { self.new ≡ record self.old { replacements = counted self.old.replacements; placed = Some keep } }
@@ -98,7 +123,10 @@ impl Files for HostFiles<'_> {
 
     fn read(&mut self, alloc: Global, path: &str) -> Result<Vec<u8>, Unread> {
         match read_whole(self.rt, alloc, path) {
-            Ok(bytes) => Ok(bytes),
+            Ok(bytes) => match self.note_read(path) {
+                Ok(()) => Ok(bytes),
+                Err(AllocError) => Err(Unread::NoMemory),
+            },
             Err(Unread::File) => {
                 self.fail();
                 Err(Unread::File)
@@ -108,7 +136,12 @@ impl Files for HostFiles<'_> {
     }
 
     fn write(&mut self, path: &str, bytes: &[u8]) -> Result<(), WriteFailed> {
-        let answer = write(self.rt, path, bytes);
+        // Two paths may name one file though their texts differ. Then the command could not know that it writes over what it reads.
+        let answer = if self.is_input(path) {
+            Err(WriteFailed)
+        } else {
+            write(self.rt, path, bytes)
+        };
         if answer.is_err() {
             self.fail();
         }
@@ -290,7 +323,7 @@ fn write_linked(
     write_found(rt, path, bytes, found)
 }
 
-/// Whether this is the file that a standard stream leads to.
-fn is_file_of(rt: &HostRuntime, stream: &str, found: &Metadata) -> bool {
-    fs::metadata(rt, stream).is_ok_and(|file| is_one_file(&file, found))
+/// Whether this is the file that a path leads to, such as that of a standard stream.
+fn is_file_of(rt: &HostRuntime, path: &str, found: &Metadata) -> bool {
+    fs::metadata(rt, path).is_ok_and(|file| is_one_file(&file, found))
 }

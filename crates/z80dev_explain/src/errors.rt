@@ -91,22 +91,33 @@ impl<'s, 'f> Faulty<'s, 'f> {
             at: Some(at),
             text: site.own_text(alloc, &message.text)?,
             name: String::from_str(alloc, why_name(finding.why))?,
-            about: self.about(finding, site)?,
             notes: all,
         })
     }
 
-    /// What an error is about: a name, in upper case; or if that is not known, its line with the arguments of the calls. Names that LOCAL makes are
-    /// as the body has them, since each source gets others.
-    fn about(&self, finding: &Finding, site: Site<'_>) -> Result<Vec<u8>, AllocError> {
-        match &finding.name {
-            Some(name) => site.own_bytes(self.alloc, name),
-            None => site.own_bytes(self.alloc, &finding.text),
+    /// Answers what is said of an error, if its line is in the front: that tells whether an earlier source has the same error. Otherwise nothing.
+    fn shared_text(
+        &self,
+        finding: &Finding,
+        site: Site<'_>,
+        gathered: &Gathered,
+    ) -> Result<String, AllocError> {
+        let alloc = self.alloc;
+        if !gathered.is_front_line(site.line) {
+            return Ok(String::new(alloc));
         }
+        let message = message(alloc, &self.text, finding, self.known.as_ref())?;
+        let message = self.adapted(finding, message)?;
+        site.own_text(alloc, &message.text)
     }
 
-    /// Answers the report of an error without what it says: only where the error is, its name, and the name that it is about.
-    fn counted(&self, finding: &Finding, site: Site<'_>) -> Result<Report, AllocError> {
+    /// Answers the report of an error that is only counted: where the error is, its name, and what tells it from others of its line.
+    fn counted(
+        &self,
+        finding: &Finding,
+        site: Site<'_>,
+        gathered: &Gathered,
+    ) -> Result<Report, AllocError> {
         let alloc = self.alloc;
         Ok(Report {
             severity: Severity::Error,
@@ -118,9 +129,8 @@ impl<'s, 'f> Faulty<'s, 'f> {
                 text: Vec::new(alloc),
                 place: Place { at: 0, len: 0 },
             }),
-            text: String::new(alloc),
+            text: self.shared_text(finding, site, gathered)?,
             name: String::from_str(alloc, why_name(finding.why))?,
-            about: self.about(finding, site)?,
             notes: Vec::new(alloc),
         })
     }
@@ -280,9 +290,9 @@ impl<'s, 'f> Faulty<'s, 'f> {
         Ok(())
     }
 
-    /// Where the line of an error is written.
-    fn site<'e>(&'e self, group: &Group, finding: &'e Finding) -> Site<'e> {
-        let found = match (&self.traces.whole, group.traced) {
+    /// Where the line of an error is written, which is this line of the expansion if it is not as it is written.
+    fn site<'e>(&'e self, traced: Option<usize>, finding: &'e Finding) -> Site<'e> {
+        let found = match (&self.traces.whole, traced) {
             (Some(trace), Some(at)) => Site::traced(trace, at, finding.number),
             _ => None,
         };
@@ -327,7 +337,7 @@ impl<'s, 'f> Faulty<'s, 'f> {
                 return self.report_found(group, &stopped, site);
             }
         }
-        self.report_found(group, finding, self.site(group, finding))
+        self.report_found(group, finding, self.site(group.traced, finding))
     }
 
     /// Answers the report of an error, in the line in which it is written.
@@ -408,7 +418,7 @@ impl<'s, 'f> Faulty<'s, 'f> {
         };
         let text = finding.text.as_slice();
         let site = Site { text, ..site };
-        let counted = self.counted(&finding, site)?;
+        let counted = self.counted(&finding, site, gathered)?;
         if !gathered.is_new(self.alloc, &counted)? {
             return Ok(());
         }
@@ -434,23 +444,48 @@ impl<'s, 'f> Faulty<'s, 'f> {
         Ok(())
     }
 
-    /// Appends the report of an error at which the expansion does not stop.
+    /// Appends the report of one time that an error occurs, unless an earlier source has the same error. Answers whether it is appended.
+    fn put_time(
+        &self,
+        group: &Group,
+        finding: &Finding,
+        site: Site<'_>,
+        gathered: &mut Gathered,
+    ) -> Result<bool, AllocError> {
+        let counted = self.counted(finding, site, gathered)?;
+        if !gathered.is_new(self.alloc, &counted)? {
+            return Ok(false);
+        }
+        let report = if gathered.takes_room(Found::Assembled) {
+            self.report_found(group, finding, site)?
+        } else {
+            counted
+        };
+        gathered.push(report)?;
+        Ok(true)
+    }
+
+    /// Appends the report of an error at which the expansion does not stop. If an earlier source has the same error, a time with other arguments is
+    /// reported of which something else is said, if there is one.
     fn put_group(
         &self,
+        findings: &[Finding],
         group: &Group,
         finding: &Finding,
         gathered: &mut Gathered,
     ) -> Result<(), AllocError> {
-        let counted = self.counted(finding, self.site(group, finding))?;
-        if !gathered.is_new(self.alloc, &counted)? {
+        if self.put_time(group, finding, self.site(group.traced, finding), gathered)? {
             return Ok(());
         }
-        let report = if gathered.takes_room(Found::Assembled) {
-            self.report_group(group, finding)?
-        } else {
-            counted
-        };
-        gathered.push(report)
+        for again in &group.differing {
+            if let Some(finding) = findings.get(again.finding) {
+                let site = self.site(again.traced, finding);
+                if self.put_time(group, finding, site, gathered)? {
+                    return Ok(());
+                }
+            }
+        }
+        Ok(())
     }
 
     /// Appends the reports of errors.
@@ -465,7 +500,7 @@ impl<'s, 'f> Faulty<'s, 'f> {
                 Some(finding) if is_stop(group, finding) => {
                     self.put_stop(group, finding, gathered)?
                 }
-                Some(finding) => self.put_group(group, finding, gathered)?,
+                Some(finding) => self.put_group(findings, group, finding, gathered)?,
                 None => (),
             }
         }
