@@ -1,7 +1,7 @@
 //! How often the keyboard is looked at.
 
-ghost use Rattle.std.specs.Prelude.{◌≡◌, false, true};
-ghost use Rattle.z80dev_run.specs.Private.Rhythm.{after_asking, is_due, is_put_off, pause};
+ghost use Rattle.std.specs.Prelude.{◌≡◌, ◌-◌, false, true};
+ghost use Rattle.z80dev_run.specs.Private.Rhythm.{after_asking, is_due, is_loud, is_put_off, pause};
 
 use crate::desk::Keys;
 use cpm_run::Patience;
@@ -12,6 +12,10 @@ const BUSY: u64 = 2_000_000;
 
 /// The same if it has not. Then nearly all the time is spent in waiting, so that a program that only looks for a key leaves the processor free.
 const IDLE: u64 = 200_000;
+
+/// How many bytes may be shown between two looks, if each key comes as it is pressed. One call of the system may show 60,000 bytes, so without
+/// that a person who wants to leave would wait for gigabytes.
+const MOST_UNSEEN: u64 = 1_048_576;
 
 /// By lines, no look is put off any more this number of steps after the last read, so that a program that shows something all the time is given
 /// what has come. It may have to wait for a line then, so this is half a second and more.
@@ -26,34 +30,46 @@ pub(crate) struct Rhythm {
     heard: u64,
     /// Whether something was shown in the present pause, or came in the look before it.
     is_busy: bool,
+    /// How many more bytes may be shown before a look is due.
+    allowance: u64,
 }
 
 impl Rhythm {
     /// Before the first step of a program, which counts as busy.
     pub(crate) fn new() -> Rhythm
-        ensures { result ≡ record { paused = 0; heard = 0; is_busy = true } }
+        ensures { result ≡ record { paused = 0; heard = 0; is_busy = true; allowance = 1048576 } }
     {
         Rhythm {
             paused: 0,
             heard: 0,
             is_busy: true,
+            allowance: MOST_UNSEEN,
         }
     }
 
-    /// Notes that something was shown, or came.
+    /// Notes that a byte came.
     pub(crate) fn work(&mut self)
         ensures { self.new ≡ record self.old { is_busy = true } }
     {
         self.is_busy = true;
     }
 
+    /// Notes that this number of bytes is shown.
+    pub(crate) fn show(&mut self, count: u64)
+        ensures { self.new ≡ record self.old { is_busy = true; allowance = self.old.allowance - count } }
+    {
+        self.is_busy = true;
+        self.allowance = self.allowance.saturating_sub(count);
+    }
+
     /// Notes a look after this number of steps.
     pub(crate) fn read_at(&mut self, turns: u64)
-        ensures { self.new ≡ record { paused = turns; heard = turns; is_busy = false } }
+        ensures { self.new ≡ record { paused = turns; heard = turns; is_busy = false; allowance = 1048576 } }
     {
         self.paused = turns;
         self.heard = turns;
         self.is_busy = false;
+        self.allowance = MOST_UNSEEN;
     }
 
     /// Whether a look by lines is put off, since it may last until a line comes and the program does something meanwhile.
@@ -61,6 +77,13 @@ impl Rhythm {
         ensures { result ≡ is_put_off keys self turns }
     {
         keys == Keys::Lines && self.is_busy && turns.saturating_sub(self.heard) < LONGEST_BUSY
+    }
+
+    /// Whether so much was shown since the last look that the next one is made at once. By lines it might last until a line comes.
+    fn is_loud(self, keys: Keys) -> bool
+        ensures { result ≡ is_loud keys self }
+    {
+        keys == Keys::Raw && self.allowance == 0
     }
 
     /// How many steps the present pause has.
@@ -86,6 +109,6 @@ impl Rhythm {
             self.is_busy = false;
             return false;
         }
-        turns.saturating_sub(self.paused) >= self.pause()
+        self.is_loud(keys) || turns.saturating_sub(self.paused) >= self.pause()
     }
 }

@@ -1,5 +1,5 @@
 -- When the keyboard is looked at.
-use Rattle.std.specs.Prelude.{◌≡◌, ◌≢◌, ℕ, ◌+◌, ◌-◌, ◌&&◌, ◌==◌, Bool, false, true, IfOk, List, Result, Ok, Err, if◌then◌else◌, length, nat_le, nat_lt, not}
+use Rattle.std.specs.Prelude.{◌≡◌, ◌≢◌, ℕ, ◌+◌, ◌-◌, ◌&&◌, ◌||◌, ◌==◌, Bool, false, true, IfOk, List, Result, Ok, Err, if◌then◌else◌, length, nat_le, nat_lt, not}
 use Rattle.cpm_run.specs.declared.station.Came.{Came}
 use Rattle.cpm_run.specs.declared.station.Came.TheVariants as came
 use Rattle.cpm_run.specs.declared.station.Patience.{Patience}
@@ -14,17 +14,23 @@ abbrev pub is_put_off : Keys → Rhythm → ℕ → Bool
 is_put_off keys.Lines r turns = r.is_busy && nat_lt (turns - r.heard) 100000000
 is_put_off keys.Raw r turns = false
 
+-- So much was shown since the last look, each key coming as it is pressed, that the next look is made at once.
+abbrev pub is_loud : Keys → Rhythm → Bool
+is_loud keys.Raw r = r.allowance == 0
+is_loud keys.Lines r = false
+
 -- the number of steps in a pause: more while the program is busy
 abbrev pub pause : Rhythm → ℕ
 pause r = if r.is_busy then 2000000 else 200000
 
 -- A session that waits looks at once. One that glances, so that a person can leave, does not look by lines. Any other look is due after the
--- pause, unless it is put off.
+-- pause, unless it is put off; or if each key comes as it is pressed, before that, once 1,048,576 bytes are shown since the last look. So if a session
+-- glances because of what it has shown, the desk looks too: it has shown as much since its own last look, or more.
 abbrev pub is_due : Keys → Rhythm → ℕ → Patience → Bool
 is_due how_keys r turns how.Wait = true
 is_due keys.Lines r turns how.Glance = false
-is_due keys.Raw r turns how.Glance = nat_le (pause r) (turns - r.paused)
-is_due how_keys r turns how.Poll = not (is_put_off how_keys r turns) && nat_le (pause r) (turns - r.paused)
+is_due keys.Raw r turns how.Glance = is_loud keys.Raw r || nat_le (pause r) (turns - r.paused)
+is_due how_keys r turns how.Poll = not (is_put_off how_keys r turns) && (is_loud how_keys r || nat_le (pause r) (turns - r.paused))
 
 -- A look that is put off is no read, but a pause begins with it, in which the program is idle until it does something. If it is always busy, the
 -- next look is due 2,000,000 steps after the last one that was put off, which may be 102,000,000 steps after the last read.
@@ -49,7 +55,7 @@ HasRead answer old new = IfOk answer (λ what. what ≢ came.End → new ≡ old
 
 -- A look begins a pause, in which the program is busy from the start if a byte came.
 abbrev pub after_look : ℕ → Result Came StationFault → Rhythm
-after_look turns answer = record { paused = turns; heard = turns; is_busy = has_come answer }
+after_look turns answer = record { paused = turns; heard = turns; is_busy = has_come answer; allowance = 1048576 }
 
 abbrev pub after_showing : List ℕ → Rhythm → Rhythm
-after_showing bytes r = if length bytes == 0 then r else record r { is_busy = true }
+after_showing bytes r = if length bytes == 0 then r else record r { is_busy = true; allowance = r.allowance - length bytes }
