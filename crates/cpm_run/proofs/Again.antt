@@ -1,5 +1,5 @@
 -- A session that is played again from its own record ends as it did.
-use Rattle.std.proofs.Common.{◌≡◌, ◌≢◌, ◌<◌, ◌≤◌, ◌+◌, ◌++◌, ◌∷◌, ◌⊎◌, [], ℕ, zero, suc, true, false, List, Option, Some, None, get_or, length, slice_get, take, refl, sym, ap, subst, ◌∙◌, arith, append_assoc, inl, inr, length-append}
+use Rattle.std.proofs.Common.{◌≡◌, ◌≢◌, ◌<◌, ◌≤◌, ◌+◌, ◌++◌, ◌∷◌, ◌⊎◌, [], ℕ, zero, suc, true, false, List, Option, Some, None, get_or, length, slice_get, take, refl, sym, ap, subst, ◌∙◌, arith, append-nil, inl, inr, length-append}
 use Rattle.std.proofs.KnownBytes.{Keeps-refl}
 use Rattle.std.proofs.lemmas.Bool.{cases_eq, cases_lt}
 use Rattle.std.proofs.lemmas.List.{take-append-le, take_all}
@@ -358,12 +358,11 @@ ShowsPut end before after s put = (echo : List ℕ) × ((more : List ℕ) → Ke
 
 put_in_first : {S : Type 0} (end : PlayEnd) (before after : Seat) (s : PlayState S) (put : List ℕ) → EndsUndisturbed end → Sees end before after s → s.run.system.terminal.console.output ≡ Some put → ShowsPut end before after s put
 put_in_first (play.Run reason) before after s put calm (came, last, (bytes, known, all)) is =
-    ([], (λ more. subst (λ (l : List ℕ). Keeps (before.screen (s.shown ++ l ++ more)) (after.screen more)) (one_known bytes put s.run.system.terminal.console.output known is) (all more)), λ other. refl)
-put_in_first play.Left before after s put calm (left, known, (echo, is_echo, all)) is = (
-  echo,
-  λ more. subst (λ (l : List ℕ). Keeps (before.screen (s.shown ++ l ++ echo ++ more)) (after.screen more)) (one_known [] put s.run.system.terminal.console.output known is) (all more),
-  λ other. absurd (other refl),
-)
+    let same = ap (λ (l : List ℕ). s.shown ++ l) (one_known bytes put s.run.system.terminal.console.output known is) ∙ sym (append-nil (s.shown ++ put)) in
+    ([], (λ more. subst (λ (l : List ℕ). Keeps (before.screen (l ++ more)) (after.screen more)) same (all more)), λ other. refl)
+put_in_first play.Left before after s put calm (left, known, (echo, is_echo, all)) is =
+    let same = sym (append-nil s.shown) ∙ ap (λ (l : List ℕ). s.shown ++ l) (one_known [] put s.run.system.terminal.console.output known is) in
+    (echo, (λ more. subst (λ (l : List ℕ). Keeps (before.screen (l ++ echo ++ more)) (after.screen more)) same (all more)), λ other. absurd (other refl))
 put_in_first play.Failed before after s put calm sees is = absurd calm
 put_in_first play.NoMemory before after s put calm sees is = absurd calm
 
@@ -372,15 +371,14 @@ not_failed end calm is = subst EndsUndisturbed is calm
 
 same_shown : {S : Type 0} (sectors : S → Image) (end cause : PlayEnd) (before after seat screen : Seat) (a b : PlayState S) → EndsUndisturbed end → EndsUndisturbed cause → Sees end before after a → IsShownAgain cause seat screen b → AlikeSessions sectors a b
     → SameShown end before after seat screen
-same_shown sectors end cause before after seat screen a b calm quiet sees shown alike =
-    let (put, also, known, other, together) = alike.system.screen.dialog.output in
+same_shown sectors end cause before after seat screen a b calm quiet sees shown both =
+    let (put, also, known, other, together) = both.system.screen.dialog.output in
     let one = put_in_first end before after a put calm sees known in
     let two = shown.all (not_failed cause quiet) in record {
       bytes = a.shown ++ put;
       echo = one.0;
-      first = λ more. subst (λ (l : List ℕ). Keeps (before.screen l) (after.screen more)) (sym (append_assoc a.shown put (one.0 ++ more))) (one.1 more);
-      again = λ more. subst (λ (l : List ℕ). Keeps (seat.screen (l ++ more)) (screen.screen more)) (ap (λ (l : List ℕ). b.shown ++ l) (one_known two.0 also b.run.system.terminal.console.output two.1 other) ∙ together)
-          (subst (λ (l : List ℕ). Keeps (seat.screen l) (screen.screen more)) (sym (append_assoc b.shown two.0 more)) (two.2 more));
+      first = one.1;
+      again = λ more. subst (λ (l : List ℕ). Keeps (seat.screen (l ++ more)) (screen.screen more)) (ap (λ (l : List ℕ). b.shown ++ l) (one_known two.0 also b.run.system.terminal.console.output two.1 other) ∙ together) (two.2 more);
       none = one.2;
     }
 

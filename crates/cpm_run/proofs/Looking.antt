@@ -83,7 +83,7 @@ told_of {A} (Err e) before mid after p q quiet shows none =
 
 -- a step after which nobody had looked
 same_attention : (a : Attention) → a.here ≡ false → after_step a ≡ a
-same_attention a none = ap (λ h. record { events = a.events; ahead = a.ahead; last = a.last; here = h; ended = a.ended }) (sym none)
+same_attention a none = ap (λ h. record { events = a.events; ahead = a.ahead; last = a.last; bulk = a.bulk; here = h; ended = a.ended }) (sym none)
 
 pub not_wait : (patience : Patience) → patience ≡ how.Glance → patience ≢ how.Wait
 not_wait patience is waits = absurd (let e : how.Glance ≡ how.Wait = sym is ∙ waits in cc)
@@ -98,6 +98,15 @@ glance_at m e = ap (λ p. patience_at p m.cpu) (unwatched m.cpu.pc e).0
 -- nothing is put and not shown
 pub few_held : {S : Type 0} (r : RunState S Dialog) → r.system.terminal.console.output ≡ Some [] → HoldsFew r
 few_held r all = subst (λ (l : Option (List ℕ)). IfSome l (λ bytes. length bytes < 4096)) (sym all) (let few : 0 < 4096 = omega arith in few)
+
+-- how much is still to be shown does not depend on how it is found
+pub as_long : (ahead rest other : List ℕ) → ahead ++ rest ≡ ahead ++ other → length rest ≡ length other
+as_long ahead rest other is =
+    let whole = sym (length-append ahead rest) ∙ ap length is ∙ length-append ahead other in
+    omega (arith, whole)
+
+pub one_put : (xs ys : List ℕ) → ◌≡◌ {A = Option (List ℕ)} (Some xs) (Some ys) → xs ≡ ys
+one_put xs ys is = cc
 
 module _ {S : Type 0} (sectors : S → Image) (faults : S → ℕ) where
   abbrev moved_to : PlayState S → ℕ → RunState S Dialog → PlayState S
@@ -283,15 +292,6 @@ module _ {S : Type 0} (sectors : S → Image) (faults : S → ℕ) where
     refl,
     λ n. as_often n more a.events,
   )
-
-  -- how much is still to be shown does not depend on how it is found
-  pub as_long : (ahead rest other : List ℕ) → ahead ++ rest ≡ ahead ++ other → length rest ≡ length other
-  as_long ahead rest other is =
-      let whole = sym (length-append ahead rest) ∙ ap length is ∙ length-append ahead other in
-      omega (arith, whole)
-
-  pub one_put : (xs ys : List ℕ) → ◌≡◌ {A = Option (List ℕ)} (Some xs) (Some ys) → xs ≡ ys
-  one_put xs ys is = cc
 
   -- what was put begins with what is shown ahead of it
   pub not_behind : (A : Type 0) {E : Type 0} (end : Option Why) (e : E) (mid after : Seat) (p : Playing S) → IsPut end p → end ≢ Some (why.Stopped stop.ConsoleFault) → ShowsRest {A = A} (Err e) p mid after

@@ -10,10 +10,13 @@ returns-in-Poll-clause-looks g c = λ start before a watched none held empty.
 pub returns-then-is_look_overdue-clause-looks : goal.returns-then-is_look_overdue-clause-looks
 returns-then-is_look_overdue-clause-looks g c = λ start before a watched none held empty.
     looks_after _ _ how.Glance c.look-then-is_look_overdue.result start before _ _ a c.look-then-is_look_overdue.ensures.looked c.look-then-is_look_overdue.ensures.allowance c.look-then-is_look_overdue.ensures.output c.look-then-is_look_overdue.ensures.ahead
-    (c.look-then-is_look_overdue.ensures.looks start before a watched empty (λ polls. c.in_default.not-Poll (c.requires.patience ∙ polls), elim (c.is_look_overdue.ensures.yes c.if-is_look_overdue.true) [
-      | inl long ↦ inl (let last = watched.last in omega (arith, long, last))
-      | inr spent ↦ inr (let allowed = watched.allowance in omega (arith, spent, allowed))
-    ]))
+    (c.look-then-is_look_overdue.ensures.looks start before a watched empty (
+      λ polls. c.in_default.not-Poll (c.requires.patience ∙ polls),
+      elim (c.is_look_overdue.ensures.yes c.if-is_look_overdue.true) [
+        | inl long ↦ inl (let last = watched.last in omega (arith, long, last))
+        | inr spent ↦ inr (let allowed = watched.allowance in omega (arith, spent, allowed))
+      ],
+    ))
 
 pub returns-clause-looks : goal.returns-clause-looks
 returns-clause-looks g c = λ start before a watched none held empty. record {

@@ -27,7 +27,7 @@ returns-clause-rest g c = (
 pub returns-clause-spent : goal.returns-clause-spent
 returns-clause-spent g c = λ rest put.
     let whole = one_put _ _ (sym put ∙ ap (λ (d : Dialog). d.output) (sym c.console.ensures) ∙ c.output-put.ensures) ∙ c.in-Some.ensures ∙ ap (λ (l : List ℕ). l ++ c.in-Some.rest.now) c.deref.ensures.value in
-    c.saturating_sub.ensures ∙ ap (λ (n : ℕ). c.args.self.now.allowance - n) (sym (as_long c.args.self.now.ahead.items rest c.in-Some.rest.now whole))
+    c.saturating_sub-self.ensures ∙ ap (λ (n : ℕ). c.args.self.now.allowance - n) (sym (as_long c.args.self.now.ahead.items rest c.in-Some.rest.now whole))
 
 pub returns-in_default-clause-events : goal.returns-in_default-clause-events
 returns-in_default-clause-events g c =
