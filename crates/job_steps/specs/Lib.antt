@@ -1,4 +1,5 @@
 pub mod Ending
+pub mod Paths
 pub mod Reading
 pub mod Reporting
 pub mod World

@@ -1,4 +1,3 @@
-pub mod Paths
 pub mod Input
 pub mod Telling
 pub mod Running

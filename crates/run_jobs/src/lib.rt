@@ -4,7 +4,6 @@
 mod debugging;
 mod input;
 mod jobs;
-mod paths;
 mod playing;
 mod running;
 mod telling;

@@ -2,6 +2,7 @@
 
 mod lock;
 mod part;
+mod refused;
 mod taken;
 
 ghost use Rattle.std.specs.Prelude.{◌≡◌, ◌≤◌, IfOk, None, false, length, option_map, string_bytes, true};
@@ -12,6 +13,7 @@ ghost use Rattle.z80dev_cli.specs.Host.{held_claim, held_lock, placement_by, wri
 
 use lock::{HeldLock, is_one_file, take_lock};
 use part::{Part, write_part};
+use refused::{Access, Refused};
 use std::alloc::{AllocError, Global};
 use std::fs::{self, Metadata};
 use std::io::ErrorKind;
@@ -44,6 +46,8 @@ pub(crate) struct HostFiles<'a> {
     placed: Option<bool>,
     /// The files that were read, which are not written over.
     taken: Taken,
+    /// What the last call that failed wanted of which file, if there is memory for that.
+    refused: Option<Refused>,
 }
 
 impl<'a> HostFiles<'a> {
@@ -59,14 +63,24 @@ impl<'a> HostFiles<'a> {
             part: None,
             placed: None,
             taken: Taken::new(rt.alloc()),
+            refused: None,
         }
     }
 
-    /// Counts a call that failed.
-    fn fail(&mut self)
-        ensures { self.new ≡ record self.old { failures = counted self.old.failures } }
+    /// Counts a call that failed, and keeps what it wanted of which file.
+    fn fail(&mut self, refused: Option<Refused>)
+        ensures { self.new ≡ record self.old { failures = counted self.old.failures; refused = refused } }
     {
         self.failures = self.failures.saturating_add(1);
+        self.refused = refused;
+    }
+
+    /// Why the last call failed, as far as another look at its file tells.
+    pub(crate) fn reason(&self) -> Option<&'static str> {
+        match &self.refused {
+            Some(refused) => refused.reason(self.rt),
+            None => None,
+        }
     }
 
     /// Counts a lock that is asked for.
@@ -128,7 +142,7 @@ impl Files for HostFiles<'_> {
                 Err(AllocError) => Err(Unread::NoMemory),
             },
             Err(Unread::File) => {
-                self.fail();
+                self.fail(Refused::new(alloc, path, Access::Read));
                 Err(Unread::File)
             }
             Err(Unread::NoMemory) => Err(Unread::NoMemory),
@@ -137,15 +151,15 @@ impl Files for HostFiles<'_> {
 
     fn write(&mut self, path: &str, bytes: &[u8]) -> Result<(), WriteFailed> {
         // Two paths may name one file though their texts differ. Then the command could not know that it writes over what it reads.
-        let answer = if self.is_input(path) {
-            Err(WriteFailed)
+        let access = if self.is_input(path) {
+            Access::WriteInput
+        } else if write(self.rt, path, bytes).is_err() {
+            Access::Write
         } else {
-            write(self.rt, path, bytes)
+            return Ok(());
         };
-        if answer.is_err() {
-            self.fail();
-        }
-        answer
+        self.fail(Refused::new(self.rt.alloc(), path, access));
+        Err(WriteFailed)
     }
 
     fn lock(&mut self, alloc: Global, path: &str, is_wanted: bool) -> Result<bool, Unread> {
@@ -157,7 +171,7 @@ impl Files for HostFiles<'_> {
                 Ok(is_held)
             }
             Err(Unread::File) => {
-                self.fail();
+                self.fail(Refused::new(alloc, path, Access::Replace));
                 Err(Unread::File)
             }
             Err(Unread::NoMemory) => Err(Unread::NoMemory),
@@ -177,7 +191,7 @@ impl Files for HostFiles<'_> {
                 Ok(Claimed { bytes, is_locked })
             }
             Err(Unread::File) => {
-                self.fail();
+                self.fail(Refused::new(alloc, path, Access::Claim));
                 Err(Unread::File)
             }
             Err(Unread::NoMemory) => Err(Unread::NoMemory),
@@ -195,7 +209,7 @@ impl Files for HostFiles<'_> {
                 Ok(())
             }
             Err(WriteFailed) => {
-                self.fail();
+                self.fail(Refused::new(self.rt.alloc(), path, Access::Replace));
                 Err(WriteFailed)
             }
         }
@@ -212,7 +226,7 @@ impl Files for HostFiles<'_> {
             }
             Err(WriteFailed) => {
                 part.discard(self.rt);
-                self.fail();
+                self.fail(None);
                 Err(WriteFailed)
             }
         }
@@ -229,7 +243,7 @@ impl Files for HostFiles<'_> {
             }
             Ok(Placed::Exists) => Ok(Placed::Exists),
             Err(WriteFailed) => {
-                self.fail();
+                self.fail(None);
                 Err(WriteFailed)
             }
         }

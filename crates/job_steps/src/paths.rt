@@ -1,0 +1,44 @@
+//! Paths that a command knows by their endings, and does not write to.
+
+ghost use Rattle.std.specs.Prelude.{◌≡◌, map};
+ghost use Rattle.std.specs.Char.{to_ascii_lowercase};
+ghost use Rattle.job_steps.specs.Ending.{RefusesText, over_text};
+ghost use Rattle.job_steps.specs.Paths.{ending_of, names_program, names_work};
+
+use std::alloc::Global;
+use z80dev_finish::End;
+
+/// The last four bytes of a path.
+fn ending_of(path: &str) -> &[u8]
+    ensures { map to_ascii_lowercase result.now ≡ ending_of path.now }
+{
+    let bytes = path.as_bytes();
+    &bytes[bytes.len().saturating_sub(4)..]
+}
+
+/// Whether a path ends as that of a program does.
+pub fn names_program(path: &str) -> bool
+    ensures { result ≡ names_program path.now }
+{
+    ending_of(path).eq_ignore_ascii_case(b".com")
+}
+
+/// Whether a path ends as that of a program, of a source or of an image does. A trace, a profile or a record is not written there.
+pub fn names_work(path: &str) -> bool
+    ensures { result ≡ names_work path.now }
+{
+    let ending = ending_of(path);
+    names_program(path)
+        || ending.eq_ignore_ascii_case(b".asm")
+        || ending.eq_ignore_ascii_case(b".img")
+}
+
+/// The refusal to write over a file of this path.
+pub fn over<'a>(alloc: Global, path: &str) -> End<'a>
+    ensures { RefusesText (over_text path.now) result }
+{
+    match format!(in alloc; "Overwrites({path})") {
+        Ok(text) => End::Refused(text),
+        Err(_) => End::NoMemory,
+    }
+}
