@@ -15,7 +15,7 @@ use error_messages::{
     Before, Message, Note, Place, SourceLines, empty_parameter, message, opener_of,
 };
 use report_texts::{Report, Severity, Where};
-use shared_lines::why_name;
+use shared_lines::{in_its_line, why_name};
 use source_errors::{Finding, Findings, Known, find_errors};
 use std::alloc::{AllocError, Global};
 use written_lines::{
@@ -179,11 +179,27 @@ impl<'s, 'f> Faulty<'s, 'f> {
         })
     }
 
-    /// Answers the report that a source has too many bytes, in its first line after the front. Building finds that in the first line of all.
+    /// The line in which it is reported that a source has too many bytes, and the one by which building reports it. For a source after a front that
+    /// is its first line, though the assembler finds the error in the first line of all; a front by itself has the error in the line with the first
+    /// byte too many.
+    fn overlong_lines(&self, finding: &Finding, reported: u32) -> (u32, u32) {
+        if !self.sources.files.is_empty() {
+            return (self.sources.after_front(1), reported);
+        }
+        let fault = AsmFault {
+            line: reported,
+            why: finding.why,
+        };
+        let AsmFault { line, .. } = in_its_line(self.sources.text(self.source), fault);
+        (line, line)
+    }
+
+    /// Answers the report that a source has too many bytes.
     fn report_overlong(&self, finding: &Finding, first: Site<'_>) -> Result<Report, AllocError> {
-        let line = self.sources.after_front(1);
+        let (line, reported) = self.overlong_lines(finding, first.reported);
         let moved = self.moved(finding, line)?;
         let site = Site {
+            reported,
             line,
             text: &moved.text,
             ..first
