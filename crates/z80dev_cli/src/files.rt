@@ -171,7 +171,7 @@ impl Files for HostFiles<'_> {
                 Ok(is_held)
             }
             Err(Unread::File) => {
-                self.fail(Refused::new(alloc, path, Access::Replace));
+                self.fail(Refused::new(alloc, path, Access::Lock));
                 Err(Unread::File)
             }
             Err(Unread::NoMemory) => Err(Unread::NoMemory),

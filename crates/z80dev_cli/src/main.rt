@@ -43,7 +43,7 @@ fn run(rt: &HostRuntime) -> Result<u8, AllocError> {
     Ok(ended.status)
 }
 
-/// Prints why a file could not be used, after the line that names it. A script does not see this, since its standard error is no terminal.
+/// Prints why a file could not be used, after the line that names it.
 fn explain(rt: &HostRuntime, files: &HostFiles<'_>) {
     let Some(reason) = files.reason() else {
         return;

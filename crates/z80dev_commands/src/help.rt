@@ -190,8 +190,9 @@ With --text, each LF becomes CR LF, and 1AH is added at the end.
 
 `error: BadName` means that NAME has a lower-case letter or is no name of CP/M
 in another way; `z80dev put --to` writes the name in upper case itself. IMG
-comes first, also with --to: a file that is no image, such as a program, may
-count as a short image without files, and is then written over.
+comes first, also with --to: a file that is no image may count as a short image
+without files, and is then written over. An IMG that ends with .com, as that of
+a program does, is refused: `error: Overwrites(IMG)`.
 
 IMG is locked from before it is read until it is replaced. A second command that
 needs the lock waits up to a second, then ends with `error: file IMG`, status 3.
@@ -343,8 +344,8 @@ The status is 0 if the program finished, you left, or the session of REC is
 over; 1 with a line `stopped: WHY at PPPP` if the program was stopped, or with a
 line `error: ..` if IMG is not an image of a disk or REC is not the record of a
 session; 2 if a word of the command is wrong, as a FILE that is COM, IMG or REC
-or ends with .com; and 3 if a file cannot be read or written, IMG cannot be
-locked, or standard input or output fails.
+or ends with .com, .asm or .img; and 3 if a file cannot be read or written, IMG
+cannot be locked, or standard input or output fails.
 
 Example: z80dev-play --disk game.img game.com
 runs game.com at the keyboard.";
@@ -375,20 +376,20 @@ counts as such a one, and is right.)
 --trace writes such a line for each of the first 1,000,000 steps to TRC: its
 number, the address, the label, the instruction's bytes and text, and the
 registers that it changed. A TRC or PRF that exists is replaced without a
-warning, even if it is a source. --profile writes to PRF how often the
-instruction at each address ran, most often first; with --list, it writes the
-lines of LST instead, each after how often its instruction ran. With --labels,
-each address has the label of SYM before it and how many bytes after it.
+warning. --profile writes to PRF how often the instruction at each address ran,
+most often first; with --list, it writes the lines of LST instead, each after
+how often its instruction ran. With --labels, each address has the label of SYM
+before it and how many bytes after it.
 
 The status is 0 if the program ends by itself, also if it ran on past its last
 byte and came to its end by mistake, which only --regs tells. It is 1 if
 something stops it or it is too long to be loaded; then standard error has a
 line `stopped: WHY at PPPP`. If a file or an option is at fault, there is a line
 `error: ..` instead: the status is 1 if IMG is not an image of a disk, if SYM is
-not a file of labels, if TRC or PRF is a file that is read or ends with .com or
-they are the same, or if --list is given without --profile, or --labels without
---regs, --last, --trace and --profile, and 3 if a file cannot be read or written
-or IMG cannot be locked. If TRC or PRF cannot be written, the line comes after
-the others.
+not a file of labels, if TRC or PRF is a file that is read or ends with .com,
+.asm or .img, or they are the same, if IMG ends with .com, or if --list is given
+without --profile, or --labels without --regs, --last, --trace and --profile,
+and 3 if a file cannot be read or written or IMG cannot be locked. If TRC or PRF
+cannot be written, the line comes after the others.
 
 Example: z80dev run --disk a.img game.com FILE.TXT";

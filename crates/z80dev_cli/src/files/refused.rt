@@ -13,7 +13,9 @@ pub(crate) enum Access {
     Read,
     /// To read it under its lock.
     Claim,
-    /// To put another file in its place, under its lock.
+    /// To lock it, so that another file can be put in its place.
+    Lock,
+    /// To put another file in its place. The command itself has the lock then.
     Replace,
     /// To write it.
     Write,
@@ -45,9 +47,10 @@ impl Refused {
             Access::Claim => why_not_read(rt, &self.path).or_else(|| why_not_locked(
                 rt, &self.path,
             )),
-            Access::Replace => {
+            Access::Lock => {
                 why_not_replaced(rt, &self.path).or_else(|| why_not_locked(rt, &self.path))
             }
+            Access::Replace => why_not_replaced(rt, &self.path),
             Access::Write => why_not_written(rt, &self.path),
             Access::WriteInput => Some("the command has read this file"),
         }
