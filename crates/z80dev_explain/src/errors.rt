@@ -483,11 +483,11 @@ impl<'s, 'f> Faulty<'s, 'f> {
 
     /// Appends the report of an error at which the expansion does not stop. If an earlier source has the same error, a time with other arguments is
     /// reported of which something else is said, if there is one.
-    fn put_group(
-        &self,
-        findings: &[Finding],
+    fn put_group<'x>(
+        &'x self,
+        findings: &'x [Finding],
         group: &Group,
-        finding: &Finding,
+        finding: &'x Finding,
         gathered: &mut Gathered,
     ) -> Result<(), AllocError> {
         if self.put_time(group, finding, self.site(group.traced, finding), gathered)? {
