@@ -1,5 +1,5 @@
 -- Which steps wait for input, and what they lack.
-use Rattle.std.proofs.Common.{◌≡◌, ◌≢◌, ◌<◌, ◌≤◌, ◌+◌, ◌∷◌, [], ℕ, Bool, true, false, List, Option, None, Some, Err, refl, sym, ap, subst, ◌∙◌}
+use Rattle.std.proofs.Common.{◌≡◌, ◌≢◌, ◌≤◌, ◌+◌, ◌∷◌, [], ℕ, Bool, true, false, List, Option, None, Some, Err, refl, sym, ap, subst, ◌∙◌}
 use Rattle.std.proofs.lemmas.Bool.{eqb-true}
 use Rattle.std.specs.Prelude.{◌==◌, if◌then◌else◌}
 use Rattle.z80_cpu.specs.declared.registers.Cpu.{Cpu}
@@ -156,17 +156,16 @@ polls how.Wait other asks = absurd (other refl)
 
 -- a step that waits for nothing
 pub may_step : {S : Type 0} (r : RunState S Dialog) (turns : ℕ) (a : Attention) → patience_of r.machine.cpu ≢ how.Wait → (patience_of r.machine.cpu ≡ how.Poll → a.here ≡ true)
-    → (patience_of r.machine.cpu ≡ how.Poll → r.system.terminal.console.output ≡ Some []) → turns ≤ a.last + 4000000 → (place_at_pc r.machine.cpu.pc ≢ Program → a.bulk < 1048576) → HoldsFew r → MayStep r turns a
-may_step r turns a other polled shown soon calm held = record {
+    → (patience_of r.machine.cpu ≡ how.Poll → r.system.terminal.console.output ≡ Some []) → turns ≤ a.last + 4000000 → HoldsFew r → MayStep r turns a
+may_step r turns a other polled shown soon held = record {
   fed = λ lacks. absurd (other (waits r lacks));
   polled = polled;
   shown = λ asks. shown (polls (patience_of r.machine.cpu) other asks);
   soon = soon;
-  calm = λ _ call. calm call;
   held = held;
 }
 
 -- a step that waits, and has its input
 pub may_take : {S : Type 0} (r : RunState S Dialog) (turns : ℕ) (a : Attention) → patience_of r.machine.cpu ≡ how.Wait → (LacksInput r → a.ended ≡ true) → r.system.terminal.console.output ≡ Some [] → turns ≤ a.last + 4000000 → HoldsFew r
     → MayStep r turns a
-may_take r turns a is fed all soon held = record { fed = fed; polled = λ e. absurd (let no : how.Wait ≡ how.Poll = sym is ∙ e in cc); shown = λ asks. all; soon = soon; calm = λ other. absurd (other is); held = held }
+may_take r turns a is fed all soon held = record { fed = fed; polled = λ e. absurd (let no : how.Wait ≡ how.Poll = sym is ∙ e in cc); shown = λ asks. all; soon = soon; held = held }

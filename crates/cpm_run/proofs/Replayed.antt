@@ -80,10 +80,6 @@ one_came turns byte arrivals all is = ap length is ∙ length-append arrivals (a
 pub in_time : (time limit target turns : ℕ) → target ≡ min time limit → target ≤ turns → turns ≤ target → turns < limit → turns ≡ time
 in_time time limit target turns is least most below = omega (arith, is, least, most, below)
 
--- the steps are made after which a byte comes
-pub past_time : (time limit target turns now : ℕ) → target ≡ min time limit → target ≤ turns → turns < limit → now ≡ turns → time ≤ now
-past_time time limit target turns now is least below same = omega (arith, is, least, below, same)
-
 module _ {S : Type 0} (sectors : S → Image) (faults : S → ℕ) where
   pub repeats_to : (A : Type 0) (limit last : ℕ) (end : PlayEnd) (start : PlayState S) (before after : Seat) (p : Playing S) → Repeats {A = A} sectors faults limit (Err end) start before p after → RepeatsTo sectors faults limit last end start before p after
   repeats_to A limit last (play.Run why) start before after p ends = ends

@@ -1,24 +1,11 @@
 -- Sessions that look alike.
-use Rattle.std.specs.Prelude.{◌≡◌, ◌≢◌, ◌++◌, [], ℕ, List, Some}
-use Rattle.std.specs.Io.KnownBytes.{Keeps}
+use Rattle.std.specs.Prelude.{◌≡◌, Some}
 use Rattle.cpm_disk.specs.Image.{Image}
 use Rattle.cpm_bdos.specs.Alike.{AlikeSystems}
 use Rattle.cpm_run.specs.Play.{PlayState}
-use Rattle.cpm_run.specs.Seat.{Seat}
-use Rattle.cpm_run.specs.declared.arriving.PlayEnd.{PlayEnd}
-use Rattle.cpm_run.specs.declared.arriving.PlayEnd.TheVariants as play
 
 -- Two sessions that look alike to the program, to a reader of the disk, and to the person. The bytes that were shown, and then those that were
 -- put and are not shown yet, are the same in both.
 pub record AlikeSessions {S : Type 0} (sectors : S → Image) (a b : PlayState S) : Type 0 where
   pub machine : b.run.machine ≡ a.run.machine
   pub system : AlikeSystems sectors (λ d. d) (Some (a.shown, b.shown)) a.run.system b.run.system
-
--- What two screens got in a session that ended so and in the same session again: the same bytes. If the person left, the first may have got the echo of
--- a line after them.
-pub record SameShown (end : PlayEnd) (before after again_before again_after : Seat) : Type 0 where
-  pub bytes : List ℕ
-  pub echo : List ℕ
-  pub first : (more : List ℕ) → Keeps (before.screen (bytes ++ echo ++ more)) (after.screen more)
-  pub again : (more : List ℕ) → Keeps (again_before.screen (bytes ++ more)) (again_after.screen more)
-  pub none : end ≢ play.Left → echo ≡ []

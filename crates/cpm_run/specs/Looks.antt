@@ -1,5 +1,5 @@
 -- When a session looks at the keyboard, and when it shows what was put.
-use Rattle.std.specs.Prelude.{◌≡◌, ◌≢◌, ◌<◌, ◌≤◌, ◌+◌, ◌++◌, ◌∷◌, ◌⊎◌, ◌==◌, ℕ, Bool, true, false, IfSome, List, [], Option, Some, Result, Ok, Err, if◌then◌else◌, length}
+use Rattle.std.specs.Prelude.{◌≡◌, ◌≢◌, ◌<◌, ◌≤◌, ◌+◌, ◌++◌, ◌∷◌, ◌==◌, ℕ, Bool, true, false, IfSome, List, [], Option, Some, Result, Ok, Err, if◌then◌else◌, length}
 use Rattle.z80_cpu.specs.State.{de}
 use Rattle.z80_cpu.specs.declared.registers.Cpu.{Cpu}
 use Rattle.cpm_console.specs.Dialog.{Dialog, put_by}
@@ -85,26 +85,24 @@ abbrev pub next_echo : {S : Type 0} → RunState S Dialog → List ℕ
 next_echo r = echo_at (place_at_pc r.machine.cpu.pc) r
 
 -- What a session has seen so far: what happened at the keyboard and the screen; the echo that is shown and that the program has not put yet; the
--- number of steps before the last look at the keyboard; the number of bytes that were shown since; whether it has looked since the last step; and
--- whether the last look said that no key will ever come.
+-- number of steps before the last look at the keyboard; whether it has looked since the last step; and whether the last look said that no key will
+-- ever come.
 pub record Attention : Type 0 where
   pub events : List SeatEvent
   pub ahead : List ℕ
   pub last : ℕ
-  pub bulk : ℕ
   pub here : Bool
   pub ended : Bool
 
 abbrev pub unlooked : Attention
-unlooked = record { events = []; ahead = []; last = 0; bulk = 0; here = false; ended = false }
+unlooked = record { events = []; ahead = []; last = 0; here = false; ended = false }
 
 -- When a look is due. It waits only if the next step would stop for want of input, and a key may still come. It polls once before each step that
--- takes what has come. Before any other step it glances, but only 2,000,000 steps or more after the last look, or if 1,048,576 bytes or more were
--- shown since.
+-- takes what has come. Before any other step it glances, but only 2,000,000 steps or more after the last look.
 abbrev pub IsLookDue : {S : Type 0} → Patience → RunState S Dialog → ℕ → Attention → Type 0
 IsLookDue how.Wait r turns a = LacksInput r × (a.ended ≡ false)
 IsLookDue how.Poll r turns a = (patience_of r.machine.cpu ≡ how.Poll) × (a.here ≡ false)
-IsLookDue how.Glance r turns a = (patience_of r.machine.cpu ≢ how.Poll) × ((a.last + 2000000 ≤ turns) ⊎ (1048576 ≤ a.bulk))
+IsLookDue how.Glance r turns a = (patience_of r.machine.cpu ≢ how.Poll) × (a.last + 2000000 ≤ turns)
 
 -- the echo that is shown before a look: that of the line for which it waits
 abbrev pub echo_before : {S : Type 0} → Patience → RunState S Dialog → List ℕ
@@ -129,14 +127,12 @@ HoldsFew r = IfSome r.system.terminal.console.output (λ bytes. length bytes < 4
 
 -- When the next step may be made. It has the input that it takes, unless no key will come; if it takes what has come, the keyboard was polled
 -- before it; if it takes a byte or a line, or what has come, all is shown that the program has put; the last look was at most 4,000,000 steps ago;
--- and not much is put that is not shown. If it is a call that does not wait for input, fewer than 1,048,576 bytes were shown since the last look: one
--- such call may put 60,000 bytes, so steps alone do not bound how long a person waits who wants to leave.
+-- and not much is put that is not shown.
 pub record MayStep {S : Type 0} (r : RunState S Dialog) (turns : ℕ) (a : Attention) : Type 0 where
   pub fed : LacksInput r → a.ended ≡ true
   pub polled : patience_of r.machine.cpu ≡ how.Poll → a.here ≡ true
   pub shown : patience_of r.machine.cpu ≢ how.Glance → r.system.terminal.console.output ≡ Some []
   pub soon : turns ≤ a.last + 4000000
-  pub calm : patience_of r.machine.cpu ≢ how.Wait → place_at_pc r.machine.cpu.pc ≢ Program → a.bulk < 1048576
   pub held : HoldsFew r
 
 -- The keyboard answered that no key will ever come.
@@ -145,11 +141,11 @@ says_end (Ok came.End) = true
 says_end _ = false
 
 abbrev pub after_look : ℕ → Patience → Result Came StationFault → Attention → Attention
-after_look turns patience answer a = record { events = a.events ++ SeatEvent.asked turns patience answer ∷ []; ahead = a.ahead; last = turns; bulk = 0; here = true; ended = says_end answer }
+after_look turns patience answer a = record { events = a.events ++ SeatEvent.asked turns patience answer ∷ []; ahead = a.ahead; last = turns; here = true; ended = says_end answer }
 
 abbrev pub after_step : Attention → Attention
 after_step a = record a { here = false }
 
 -- once these bytes are shown, with this echo ahead of the program
 abbrev pub after_show : List ℕ → List ℕ → Attention → Attention
-after_show bytes ahead a = record a { events = a.events ++ SeatEvent.showed bytes ∷ []; ahead = ahead; bulk = a.bulk + length bytes }
+after_show bytes ahead a = record a { events = a.events ++ SeatEvent.showed bytes ∷ []; ahead = ahead }

@@ -139,14 +139,14 @@ GivesUpSession sectors faults start new events =
     ⊎ (EndsAttended sectors faults start (why.Stopped stop.ConsoleFault) new a × ((rest : List ℕ) → new.run.system.terminal.console.output ≢ Some (a.ahead ++ rest)) × (events ≡ a.events)))
 
 -- What happened at the keyboard and the screen in a session that ended so. If the run ended, the rest of what the program put was shown last. If the
--- person left, that was the answer to the last look. If memory ran out, it did so for bytes that that brought, or for the echo before a call that takes
--- a line. If the session failed, the last look failed, or the screen did; or the session gave up.
+-- person left, that was the answer to the last look. If memory ran out, it did so for what that brought, or for the echo before a call that takes a
+-- line. If the session failed, the last look failed, or the screen did; or the session gave up.
 abbrev pub HasHappened : {S : Type 0} → (S → Image) → (S → ℕ) → PlayEnd → PlayState S → PlayState S → List SeatEvent → Type 0
 HasHappened sectors faults (play.Run end) start new events =
     (a : Attention) × RunsTo sectors faults start end new a × ((rest : List ℕ) × (new.run.system.terminal.console.output ≡ Some (a.ahead ++ rest)) × (events ≡ a.events ++ SeatEvent.showed rest ∷ []))
 HasHappened sectors faults play.Left start new events = EndsByLook sectors faults start new (Ok said.Leave) events
 HasHappened sectors faults play.NoMemory start new events =
-    ((a : Attention) × ComesTo sectors faults start new a × TakesLine new.run.machine.cpu × (events ≡ a.events)) ⊎ ((count : ℕ) × (0 < count) × EndsByLook sectors faults start new (Ok (said.Bytes count)) events)
+    ((a : Attention) × ComesTo sectors faults start new a × TakesLine new.run.machine.cpu × (events ≡ a.events)) ⊎ ((count : ℕ) × EndsByLook sectors faults start new (Ok (said.Bytes count)) events)
 HasHappened sectors faults play.Failed start new events =
     ((fault : StationFault) × EndsByLook sectors faults start new (Err fault) events) ⊎ (EndsByScreen sectors faults start new events ⊎ GivesUpSession sectors faults start new events)
 
@@ -214,10 +214,6 @@ pub record FollowsRecord (recorded : List Arrival) (last turns : ℕ) (arrivals 
   pub later : (k : ℕ) (other : Arrival) → count ≤ k → slice_get recorded k ≡ Some other → turns ≤ other.turn
   pub within : turns ≤ last
 
--- The next byte of a record is due after this number of steps.
-abbrev pub NextIsDue : List Arrival → ℕ → List Arrival → Type 0
-NextIsDue recorded turns arrivals = (next : Arrival) × (slice_get recorded (length arrivals) ≡ Some next) × (next.turn ≤ turns)
-
 -- How a session ends that is played again from a record with this last number of steps: with the run; when these steps are made, which is what
 -- `Left` says here; or since the screen failed or memory ran out.
 abbrev pub ReplayEnds : {S : Type 0} → (S → Image) → (S → ℕ) → ℕ → ℕ → PlayState S → PlayEnd → PlayState S → Type 0
@@ -235,11 +231,11 @@ pub record IsShownAgain {S : Type 0} (end : PlayEnd) (before after : Seat) (new 
   pub all : end ≢ play.Failed → (bytes : List ℕ) × (new.run.system.terminal.console.output ≡ Some bytes) × ShowsAll before after new bytes
   pub failed : end ≡ play.Failed → (events : List SeatEvent) × (bytes : List ℕ) × (after.events ≡ with_events (events ++ SeatEvent.not_showed bytes ∷ []) before.events)
 
--- A program is played again from a record. Memory runs out only for the next byte of the record, when its steps are made. If the record is in order, the
--- bytes came as it says; and all of them, if the session ended as if the person left.
+-- A program is played again from a record. Memory runs out only for a byte of the record that is still to come. If the record is in order, the bytes
+-- came as it says; and all of them, if the session ended as if the person left.
 abbrev pub IsReplayed : {S : Type 0} → (S → Image) → (S → ℕ) → List ℕ → List (List ℕ) → Mounted S → ℕ → List Arrival → ℕ → Seat → PlayEnd → ℕ → ℕ → Mounted S → List Arrival → Seat → Type 0
 IsReplayed {S} sectors faults file words disk limit recorded last before end turns pc left arrivals after =
     ((cpu : Cpu) × (memory : List ℕ) × (new : PlayState S) × IsStart file words (Ok (cpu, memory)) × ReplayEnds sectors faults limit last (first_state cpu memory disk) end new
-    × (turns ≡ new.turns) × (turns ≤ limit) × (pc ≡ new.run.machine.cpu.pc) × (left ≡ new.run.system.disk) × (arrivals ≡ new.arrivals) × IsShownAgain end before after new × (end ≡ play.NoMemory → NextIsDue recorded turns arrivals)
+    × (turns ≡ new.turns) × (turns ≤ limit) × (pc ≡ new.run.machine.cpu.pc) × (left ≡ new.run.system.disk) × (arrivals ≡ new.arrivals) × IsShownAgain end before after new × (end ≡ play.NoMemory → length arrivals < length recorded)
     × (IsInOrder recorded last → FollowsRecord recorded last turns arrivals × (end ≡ play.Left → arrivals ≡ recorded)))
     ⊎ ((no : StartFault) × IsStart file words (Err no) × (end ≡ play.Run (unstarted no)) × (turns ≡ 0) × (pc ≡ 0x0100) × (left ≡ disk) × (arrivals ≡ []) × (after ≡ before))

@@ -12,7 +12,7 @@ ghost use Rattle.cpm_run.specs.declared.arriving.PlayEnd.{PlayEnd};
 ghost use Rattle.cpm_run.specs.declared.ending.Why.{Why};
 ghost use Rattle.cpm_fcb.specs.declared.stop.Stop.TheVariants as stop;
 ghost use Rattle.cpm_run.specs.declared.ending.Why.TheVariants as why;
-ghost use Rattle.cpm_run.specs.AlikeSessions.{AlikeSessions, SameShown};
+ghost use Rattle.cpm_run.specs.AlikeSessions.{AlikeSessions};
 ghost use Rattle.cpm_run.specs.Looks.{LacksInput};
 ghost use Rattle.cpm_run.specs.Play.{EndsBy, IsInOrder, IsPlayed, IsReplayed, PlayState, PlayedRunEnds, PlaysOn, arrived, first_state};
 ghost use Rattle.cpm_run.specs.Run.{IsRun, TurnsEnd};
@@ -68,14 +68,14 @@ pub fn bytes_in_order<S: Sectors>()
 {}
 
 /// A session that is played again from its own record ends as it did: for the same reason, after the same number of steps, with the same PC
-/// and a disk that looks alike, the same bytes came, and the same bytes were shown, besides the echo of a line that was not finished when the
-/// person left. This does not hold if memory ran out, or if the disk, the console, the keyboard or the screen failed, in either of the two.
+/// and a disk that looks alike, and the same bytes came. This does not hold if memory ran out, or if the disk, the console, the keyboard or
+/// the screen failed, in either of the two.
 pub fn replayed_alike<S: Sectors>()
     ensures { (file : List ℕ) (words : List (List ℕ)) (disk other left there : Mounted S) (limit turns steps pc address : ℕ) (before after seat screen : Seat) (end cause : PlayEnd) (arrivals came : List Arrival) →
         AlikeDisks S.sectors disk other → EndsUndisturbed end → EndsUndisturbed cause →
         IsPlayed S.sectors S.faults file words disk limit before end turns pc left arrivals after →
         IsReplayed S.sectors S.faults file words other limit arrivals turns seat cause steps address there came screen →
-        (cause ≡ end) × (steps ≡ turns) × (address ≡ pc) × AlikeDisks S.sectors left there × (came ≡ arrivals) × SameShown end before after seat screen }
+        (cause ≡ end) × (steps ≡ turns) × (address ≡ pc) × AlikeDisks S.sectors left there × (came ≡ arrivals) }
 {
     z80_machine::laws::one_turn();
 }

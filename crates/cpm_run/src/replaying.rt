@@ -1,8 +1,8 @@
 //! Runs a program again as in an earlier session, with the bytes of its record.
 
-ghost use Rattle.std.specs.Prelude.{◌≡◌, ◌≢◌, ◌≤◌, ◌<◌, [], ℕ, Err, IfOk, List, OnOk, map, true};
+ghost use Rattle.std.specs.Prelude.{◌≡◌, ◌≢◌, ◌≤◌, ◌<◌, [], ℕ, Err, IfOk, List, OnOk, length, map, true};
 ghost use Rattle.cpm_run.specs.declared.arriving.PlayEnd.TheVariants as play;
-ghost use Rattle.cpm_run.specs.Play.{FollowsRecord, IsInOrder, IsReplayed, IsShownAgain, NextIsDue, PlayState, ReplayEnds};
+ghost use Rattle.cpm_run.specs.Play.{FollowsRecord, IsInOrder, IsReplayed, IsShownAgain, PlayState, ReplayEnds};
 ghost use Rattle.cpm_run.specs.Seat.{Seat};
 ghost use Rattle.cpm_run.specs.Private.Playing.{EndsTold, HasReached, IsQuiet, IsUnasked, OnlyShows, Repeats, RepeatsTo, Stands, ToldOn, state_of};
 
@@ -93,7 +93,7 @@ impl<S: Sectors> Playing<S> {
         requires bound { self.old.turns ≤ limit }
         ensures bound { self.new.turns ≤ limit }
         ensures follows { self.old.arrivals.items ≡ [] → self.old.turns ≡ 0 → IsInOrder recorded.now last → FollowsRecord recorded.now last self.new.turns self.new.arrivals.items × (result ≡ play.Left → self.new.arrivals.items ≡ recorded.now) }
-        ensures short { self.old.arrivals.items ≡ [] → result ≡ play.NoMemory → NextIsDue recorded.now self.new.turns self.new.arrivals.items }
+        ensures short { self.old.arrivals.items ≡ [] → result ≡ play.NoMemory → length self.new.arrivals.items < length recorded.now }
         ensures told { (before : Seat) → IsQuiet before self.old (K.seat station.old) → EndsTold result before self.new (K.seat station.new) }
         ensures keys { IsUnasked (K.seat station.old) (K.seat station.new) }
         ensures stands { (start : PlayState S) (before : Seat) → Stands S.sectors S.faults start before self.old (K.seat station.old) → RepeatsTo S.sectors S.faults limit last result start before self.new (K.seat station.new) }

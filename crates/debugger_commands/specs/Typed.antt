@@ -325,5 +325,5 @@ refusal_line (word, refusal.Turns) = shown_word word ++ codes ": not a decimal n
 refusal_line (word, refusal.Number) = shown_word word ++ codes ": not a number up to 65535\n"
 refusal_line (word, refusal.NoBytes) = shown_word word ++ codes ": watch needs at least one byte\n"
 refusal_line (word, refusal.Register) = shown_word word ++ codes ": no register before =\n"
-refusal_line (word, refusal.Value) = shown_word word ++ codes ": after = a number up to 65535 is needed, such as 5BH, 005B or 91, or a label\n"
+refusal_line (word, refusal.Value) = shown_word word ++ codes ": after = a number up to 65535 or a label is needed, not a register\n"
 refusal_line (word, refusal.OneByte) = shown_word word ++ codes ": a register of one byte, so the value is at most 255\n"

@@ -32,7 +32,6 @@ use Rattle.z80dev_finish.specs.declared.end.End.TheVariants as end
 use Rattle.job_steps.specs.Ending.{CarriesOut, Effect, LineAt, NothingDone, Refuses, UnlessRefused, With, WithAll, over_text}
 use Rattle.z80dev_finish.specs.Paths.{is_same_path}
 use Rattle.job_steps.specs.Claims.{warnings, HasClaimed, IsNotClaimed, KeepsFile}
-use Rattle.job_steps.specs.Paths.{names_program}
 use Rattle.cpm_directory.specs.declared.entry.TheConstants.{USERS}
 
 -- A command ends, with its warnings on standard error if all is done.
@@ -213,22 +212,17 @@ BlankIsMade image keep made x (end.File at last) = (x.after ≡ x.before) × (at
 BlankIsMade image keep made x end.NoMemory = NothingDone x ⊎ GivesUp image keep x
 BlankIsMade image keep made x _ = ⊥
 
--- A path is not locked, though its lock was asked for; or since it is that of a program; or memory ran out, before the lock was asked for or in that.
+-- A path is not locked, though its lock was asked for; or memory ran out, before that or in it.
 abbrev pub IsNotLocked : Folder → Folder → List ℕ → End → Type 0
-IsNotLocked old new path (end.File at last) = (at.now ≡ path) × (last.now ≡ []) × FailsSo (after_asking old) new × (names_program path ≡ false)
-IsNotLocked old new path (end.Refused said) = (string_bytes said ≡ over_text path) × (new ≡ old) × (names_program path ≡ true)
+IsNotLocked old new path (end.File at last) = (at.now ≡ path) × (last.now ≡ []) × FailsSo (after_asking old) new
 IsNotLocked old new path end.NoMemory = (new ≡ old) ⊎ (new ≡ after_asking old)
 IsNotLocked old new path _ = ⊥
-
--- The lock may be taken of a path that is not that of a program.
-abbrev pub MayLock : List ℕ → Bool → Bool → Type 0
-MayLock path wanted is_held = IsLockWanted wanted is_held × (names_program path ≡ false)
 
 -- The lock of a path is taken, whether or not it has a file, and the command continues with whether the lock is held, on the files as they are
 -- then; or it is not, which is the end.
 abbrev pub Locking : List ℕ → Bool → (Bool → Effect → Type 0) → Effect → End → Type 0
 Locking path wanted Does x e =
-    ((is_held : Bool) × MayLock path wanted is_held × Does is_held (record x { old = locked_by x.old path wanted is_held }))
+    ((is_held : Bool) × IsLockWanted wanted is_held × Does is_held (record x { old = locked_by x.old path wanted is_held }))
     ⊎ (IsNotLocked x.old x.new path e × (x.after ≡ x.before))
 
 -- `blank`: the path is locked; then the image is made.

@@ -10,7 +10,7 @@ ghost use Rattle.disk_jobs.specs.Private.Images.{ArePuts, LocksPath};
 
 use crate::change::change;
 use crate::names::{name_of, own_names, patterns_of, refusal_end};
-use job_steps::{claim, names_program, over, read, read_all, warnings};
+use job_steps::{claim, read, read_all, warnings};
 use std::alloc::{AllocError, Global};
 use z80dev_commands::{Attribute, Manner, Target};
 use z80dev_disk::{
@@ -193,7 +193,7 @@ fn kind_of(mega: bool) -> DiskKind
     }
 }
 
-/// Takes the lock of a path, if it is wanted, and gives whether it is held. A path that ends as that of a program does is refused.
+/// Takes the lock of a path, if it is wanted, and gives whether it is held.
 fn lock_path<'a, F: Files>(
     alloc: Global,
     path: &'a str,
@@ -202,9 +202,6 @@ fn lock_path<'a, F: Files>(
 ) -> Result<bool, End<'a>>
     ensures { LocksPath (F.folder files.old) (F.folder files.new) path.now lock result }
 {
-    if names_program(path) {
-        return Err(over(alloc, path));
-    }
     match files.lock(alloc, path, lock) {
         Ok(is_held) => Ok(is_held),
         Err(Unread::File) => Err(End::File { path, ending: "" }),

@@ -5,8 +5,6 @@ use Rattle.cpm_image.specs.declared.kind.DiskKind.TheVariants.{EightInch, Megaby
 use Rattle.z80dev_finish.specs.Files.{FailsSo, File, Folder, IsLockWanted, IsUnreadable, Places, Replaced, ReplacedOrNot, Test, after_asking, claimed_by}
 use Rattle.z80dev_finish.specs.declared.end.End.{End}
 use Rattle.z80dev_finish.specs.declared.end.End.TheVariants as end
-use Rattle.job_steps.specs.Ending.{over_text}
-use Rattle.job_steps.specs.Paths.{names_program}
 use Rattle.job_steps.specs.Reading.{IsRead, IsNotRead}
 use Rattle.job_steps.specs.declared.image.Image.{Image}
 
@@ -35,18 +33,15 @@ warnings path count is_unlocked = line_if_any (warning_lines path count is_unloc
 
 -- ---- an image that is claimed
 
--- A file was locked and then read, and these bytes were read. Its path is not that of a program.
+-- A file was locked and then read, and these bytes were read.
 abbrev pub HasClaimed : Folder → Folder → List ℕ → Bool → Bool → List ℕ → Type 0
 HasClaimed old new path wanted is_held bytes = (accepts : Test) × (new ≡ claimed_by old path wanted is_held accepts) × (accepts bytes ≡ true)
-    × IsLockWanted wanted is_held × IsRead old path bytes × (names_program path ≡ false)
+    × IsLockWanted wanted is_held × IsRead old path bytes
 
--- An image is not claimed, though its lock was asked for; or since its path is that of a program; or memory ran out, for that refusal, in the claim or
--- just after it.
+-- An image is not claimed, though its lock was asked for; or memory ran out, in the claim or just after it.
 abbrev pub IsNotClaimed : Folder → Folder → List ℕ → Bool → End → Type 0
-IsNotClaimed old new path wanted (end.File at last) = (at.now ≡ path) × (last.now ≡ []) × (((new ≡ after_asking old) × IsUnreadable old.files path) ⊎ FailsSo (after_asking old) new) × (names_program path ≡ false)
-IsNotClaimed old new path wanted (end.Refused said) = (string_bytes said ≡ over_text path) × (new ≡ old) × (names_program path ≡ true)
-IsNotClaimed old new path wanted end.NoMemory = ((new ≡ old) × (names_program path ≡ true))
-    ⊎ (((new ≡ after_asking old) × (names_program path ≡ false)) ⊎ ((is_held : Bool) × (bytes : List ℕ) × HasClaimed old new path wanted is_held bytes))
+IsNotClaimed old new path wanted (end.File at last) = (at.now ≡ path) × (last.now ≡ []) × (((new ≡ after_asking old) × IsUnreadable old.files path) ⊎ FailsSo (after_asking old) new)
+IsNotClaimed old new path wanted end.NoMemory = (new ≡ after_asking old) ⊎ ((is_held : Bool) × (bytes : List ℕ) × HasClaimed old new path wanted is_held bytes)
 IsNotClaimed old new path wanted _ = ⊥
 
 -- A claimed file is replaced by these bytes under its lock, unless it has them already: then it is not touched, and keeps its time.

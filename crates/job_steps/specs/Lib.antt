@@ -1,5 +1,4 @@
 pub mod Ending
-pub mod Paths
 pub mod Reading
 pub mod Reporting
 pub mod World

@@ -3,7 +3,6 @@
 ghost use Rattle.z80dev_finish.specs.Files.{IsFree};
 ghost use Rattle.job_steps.specs.Claims.{KeepsFile, ClaimsImage, ReadsImageFile};
 
-use crate::paths::{names_program, over};
 use crate::read;
 use crate::warning::warnings;
 use std::alloc::Global;
@@ -30,8 +29,7 @@ pub fn read_image<'a, F: Files>(
     Ok(Image { bytes, warnings })
 }
 
-/// Locks an image, if it is wanted, and then reads it. A path that ends as that of a program does is refused: a program of 128 bytes, or of
-/// a multiple of that, could be taken for a short image, and be lost.
+/// Locks an image, if it is wanted, and then reads it.
 pub fn claim<'a, F: Files>(
     alloc: Global,
     path: &'a str,
@@ -40,9 +38,6 @@ pub fn claim<'a, F: Files>(
 ) -> Result<Image, End<'a>>
     ensures { ClaimsImage (F.folder files.old) (F.folder files.new) path.now lock result }
 {
-    if names_program(path) {
-        return Err(over(alloc, path));
-    }
     match files.claim(alloc, path, lock) {
         Ok(Claimed { bytes, is_locked }) => {
             let warnings = warnings(alloc, path, bytes.len(), lock && !is_locked)?;

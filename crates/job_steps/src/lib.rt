@@ -6,14 +6,12 @@
 
 mod host;
 mod image;
-mod paths;
 mod reading;
 mod reporting;
 mod warning;
 
 pub use host::{Ended, Host};
 pub use image::{Image, claim, keep, read_image};
-pub use paths::{names_program, names_work, over};
 pub use reading::{read, read_all, read_if_given};
 pub use reporting::{put_lines, refuse_value, report_any, report_line, report_lines};
 pub use warning::warnings;

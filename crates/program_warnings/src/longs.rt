@@ -56,6 +56,7 @@ fn note_report(
         at,
         text,
         name: String::new(alloc),
+        about: Vec::new(alloc),
         notes,
     })
 }

@@ -50,6 +50,7 @@ fn report_of(
         at: Some(sources.named(alloc, source, warning.number, &warning.name)?),
         text: warning.message(alloc)?,
         name: String::new(alloc),
+        about: Vec::new(alloc),
         notes,
     })
 }

@@ -71,6 +71,7 @@ impl<'w, 's, 'f> Warned<'w, 's, 'f> {
             at: Some(self.sources.mark(alloc, warning.source, site, b"")?),
             text: site.own_text(alloc, shown)?,
             name: String::new(alloc),
+            about: Vec::new(alloc),
             notes,
         })
     }

@@ -1,3 +1,4 @@
+pub mod Paths
 pub mod Input
 pub mod Telling
 pub mod Running

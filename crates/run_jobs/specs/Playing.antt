@@ -18,8 +18,8 @@ use Rattle.z80dev_finish.specs.End.{Tells, end_status}
 use Rattle.z80dev_finish.specs.Files.{Folder, Stores}
 use Rattle.z80dev_finish.specs.declared.end.End.{End}
 use Rattle.z80dev_finish.specs.declared.end.End.TheVariants as end
+use Rattle.run_jobs.specs.Paths.{names_program}
 use Rattle.job_steps.specs.Ending.{over_text}
-use Rattle.job_steps.specs.Paths.{names_work}
 use Rattle.job_steps.specs.Reading.{IsNotRead, IsRead}
 use Rattle.run_jobs.specs.Running.{ClaimsDisk, EndsBefore, IsDiskNotClaimed, IsKept, IsNoDisk, ReportsWritten, lines_in}
 use Rattle.job_steps.specs.Reporting.{either}
@@ -58,10 +58,10 @@ abbrev pub is_read_by : Play → List ℕ → Bool
 is_read_by p path =
     is_same_path path p.program.now || (option_map_or (λ disk. is_same_path path disk.now) p.disk false || option_map_or (λ played. is_same_path path played.now) p.replay false)
 
--- The path of the new record is one that is read, or ends as that of a program, a source or an image does.
+-- The path of the new record is one that is read, or that of a program.
 abbrev pub bad_record : Play → Option (Bor (List ℕ)) → Option (List ℕ)
 bad_record p None = None
-bad_record p (Some path) = if is_read_by p path.now || names_work path.now then Some (over_text path.now) else None
+bad_record p (Some path) = if is_read_by p path.now || names_program path.now then Some (over_text path.now) else None
 
 -- the text for the first value that is wrong: the terminal, then the path of the record
 abbrev pub bad_in_play : Play → Option (List ℕ)

@@ -25,8 +25,8 @@ use Rattle.z80dev_commands.specs.declared.job.Telling.{Telling}
 use Rattle.z80dev_finish.specs.Files.{Folder, Stores}
 use Rattle.z80dev_finish.specs.declared.end.End.{End}
 use Rattle.z80dev_finish.specs.declared.end.End.TheVariants as end
+use Rattle.run_jobs.specs.Paths.{names_program}
 use Rattle.job_steps.specs.Ending.{over_text}
-use Rattle.job_steps.specs.Paths.{names_work}
 use Rattle.run_jobs.specs.declared.telling.Told.{Told}
 use Rattle.z80dev_run.specs.Coverage.{coverage_line}
 use Rattle.z80dev_run.specs.Labelled.{Known}
@@ -65,9 +65,9 @@ is_given path (Some other) = is_same_path path other.now
 abbrev pub reads_file : Run → List ℕ → Bool
 reads_file run path = is_given path run.disk || (is_same_path path run.program.now || (is_given path run.telling.labels || is_given path run.telling.list))
 
--- the run writes no file of this path: it reads it, or it ends as that of a program, a source or an image does
+-- the run writes no file of this path: it reads it, or it is that of a program
 abbrev pub is_kept : Run → List ℕ → Bool
-is_kept run path = reads_file run path || names_work path
+is_kept run path = reads_file run path || names_program path
 
 abbrev pub if_read : Bool → List ℕ → Option (List ℕ)
 if_read is_read path = if is_read then Some path else None
@@ -88,7 +88,7 @@ unused telling =
 abbrev pub unused_text : List ℕ → List ℕ
 unused_text option = codes "Unused(" ++ option ++ codes ")"
 
--- Why a run may not tell what it is asked for: the path of the trace is one that it reads, or ends as that of a program, a source or an image does; or that of the profile does, or is that
+-- Why a run may not tell what it is asked for: the path of the trace is one that it reads or that of a program; or that of the profile is, or is that
 -- of the trace; or an option would do nothing.
 abbrev pub why_not_told : Run → Option (List ℕ)
 why_not_told run =

@@ -4,6 +4,7 @@
 mod debugging;
 mod input;
 mod jobs;
+mod paths;
 mod playing;
 mod running;
 mod telling;

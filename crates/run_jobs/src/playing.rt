@@ -9,8 +9,9 @@ ghost use Rattle.run_jobs.specs.Private.Images.{IsFreeOf};
 ghost use Rattle.job_steps.specs.Reading.{reader_of};
 ghost use Rattle.job_steps.specs.World.{world_of};
 
+use crate::paths::names_program;
 use crate::running::{Inputs, claim_disk, keep_disk, ready_of, report_written};
-use job_steps::{Ended, Host, Image, names_work, read, refuse_value};
+use job_steps::{Ended, Host, Image, read, refuse_value};
 use screen_codes::Codes;
 use std::alloc::{AllocError, Global};
 use streams::{Input, Sink, WriteFailed, flush};
@@ -59,7 +60,7 @@ fn bad_terminal(alloc: Global, word: Option<&str>) -> Result<Option<String>, All
     }
 }
 
-/// Answers with which text a record is refused that has the path of a file that is read, or ends as that of a program, a source or an image does.
+/// Answers with which text a record is refused that has the path of a file that is read, or that of another program.
 fn bad_record(
     alloc: Global,
     job: &Play<'_>,
@@ -78,7 +79,7 @@ fn bad_record(
         Some(replayed) => is_same_path(path, replayed),
         None => false,
     };
-    if is_same_path(path, job.program) || is_image || is_replayed || names_work(path) {
+    if is_same_path(path, job.program) || is_image || is_replayed || names_program(path) {
         return Ok(Some(format!(in alloc; "Overwrites({path})")?));
     }
     Ok(None)

@@ -8,8 +8,8 @@ ghost use Rattle.run_jobs.specs.Telling.{AreLastLines, IsFileIfGiven, IsNothingT
 ghost use Rattle.z80dev_run.specs.Program.{IsRan, IsReadyToRun};
 ghost use Rattle.z80dev_run.specs.Reports.{IsTraceFile};
 
+use crate::paths::names_program;
 use disassembler::{DisassemblyFault, fault_text, read_labels};
-use job_steps::names_work;
 use std::alloc::{AllocError, Global};
 use streams::Sink;
 use z80_cpu::Cpu;
@@ -99,11 +99,11 @@ fn reads_file(run: &Run<'_>, path: &str) -> bool
         || is_given(path, run.telling.list)
 }
 
-/// Whether a run writes no file of this path: it reads it, or it ends as that of a program, a source or an image does.
+/// Whether a run writes no file of this path: it reads it, or it is that of a program.
 fn is_kept(run: &Run<'_>, path: &str) -> bool
     ensures { result ≡ is_kept run.now path.now }
 {
-    reads_file(run, path) || names_work(path)
+    reads_file(run, path) || names_program(path)
 }
 
 /// The path of the trace, if it may not be written there.

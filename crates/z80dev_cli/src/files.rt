@@ -2,8 +2,6 @@
 
 mod lock;
 mod part;
-mod refused;
-mod taken;
 
 ghost use Rattle.std.specs.Prelude.{◌≡◌, ◌≤◌, IfOk, None, false, length, option_map, string_bytes, true};
 ghost use Rattle.common.specs.declared.limits.TheConstants.{LONGEST_TEXT};
@@ -13,13 +11,11 @@ ghost use Rattle.z80dev_cli.specs.Host.{held_claim, held_lock, placement_by, wri
 
 use lock::{HeldLock, is_one_file, take_lock};
 use part::{Part, write_part};
-use refused::{Access, Refused};
 use std::alloc::{AllocError, Global};
 use std::fs::{self, Metadata};
 use std::io::ErrorKind;
 use std::os::unix::fs::FileTypeExt;
 use streams::{Watched, WatchedSink, WriteFailed, print};
-use taken::Taken;
 use z80dev::{Fault, read_text};
 use z80dev_finish::{Claimed, Files, Placed, Unread};
 
@@ -44,10 +40,6 @@ pub(crate) struct HostFiles<'a> {
     part: Option<Part>,
     /// Whether the last file that took the place of another would have been kept from it by one that was there.
     placed: Option<bool>,
-    /// The files that were read, which are not written over.
-    taken: Taken,
-    /// What the last call that failed wanted of which file, if there is memory for that.
-    refused: Option<Refused>,
 }
 
 impl<'a> HostFiles<'a> {
@@ -62,25 +54,14 @@ impl<'a> HostFiles<'a> {
             is_spent: false,
             part: None,
             placed: None,
-            taken: Taken::new(rt.alloc()),
-            refused: None,
         }
     }
 
-    /// Counts a call that failed, and keeps what it wanted of which file.
-    fn fail(&mut self, refused: Option<Refused>)
-        ensures { self.new ≡ record self.old { failures = counted self.old.failures; refused = refused } }
+    /// Counts a call that failed.
+    fn fail(&mut self)
+        ensures { self.new ≡ record self.old { failures = counted self.old.failures } }
     {
         self.failures = self.failures.saturating_add(1);
-        self.refused = refused;
-    }
-
-    /// Why the last call failed, as far as another look at its file tells.
-    pub(crate) fn reason(&self) -> Option<&'static str> {
-        match &self.refused {
-            Some(refused) => refused.reason(self.rt),
-            None => None,
-        }
     }
 
     /// Counts a lock that is asked for.
@@ -103,26 +84,6 @@ impl<'a> HostFiles<'a> {
         self.is_spent = false;
     }
 
-    /// Notes that the file of a path was read.
-    fn note_read(&mut self, path: &str) -> Result<(), AllocError>
-        ensures { self.new ≡ record self.old { taken = self.new.taken } }
-    {
-        self.taken.add(self.rt, path)
-    }
-
-    /// Whether a path is that of a file that was read, or on which the lock is, also if it was written otherwise there. A link to such a file
-    /// is not: what is written takes the place of the link.
-    fn is_input(&self, path: &str) -> bool {
-        let Ok(found) = fs::symlink_metadata(self.rt, path) else {
-            return false;
-        };
-        let is_locked = match &self.lock {
-            Some(lock) => is_file_of(self.rt, &lock.path, &found),
-            None => false,
-        };
-        is_locked || self.taken.has(&found)
-    }
-
     /// Counts a file that took its place; `keep` says whether one that was there would have been kept.
     fn count_replacement(&mut self, keep: bool)
         ensures { self.new ≡ record self.old { replacements = counted self.old.replacements; placed = Some keep } }
@@ -137,12 +98,9 @@ impl Files for HostFiles<'_> {
 
     fn read(&mut self, alloc: Global, path: &str) -> Result<Vec<u8>, Unread> {
         match read_whole(self.rt, alloc, path) {
-            Ok(bytes) => match self.note_read(path) {
-                Ok(()) => Ok(bytes),
-                Err(AllocError) => Err(Unread::NoMemory),
-            },
+            Ok(bytes) => Ok(bytes),
             Err(Unread::File) => {
-                self.fail(Refused::new(alloc, path, Access::Read));
+                self.fail();
                 Err(Unread::File)
             }
             Err(Unread::NoMemory) => Err(Unread::NoMemory),
@@ -150,16 +108,11 @@ impl Files for HostFiles<'_> {
     }
 
     fn write(&mut self, path: &str, bytes: &[u8]) -> Result<(), WriteFailed> {
-        // Two paths may name one file though their texts differ. Then the command could not know that it writes over what it reads.
-        let access = if self.is_input(path) {
-            Access::WriteInput
-        } else if write(self.rt, path, bytes).is_err() {
-            Access::Write
-        } else {
-            return Ok(());
-        };
-        self.fail(Refused::new(self.rt.alloc(), path, access));
-        Err(WriteFailed)
+        let answer = write(self.rt, path, bytes);
+        if answer.is_err() {
+            self.fail();
+        }
+        answer
     }
 
     fn lock(&mut self, alloc: Global, path: &str, is_wanted: bool) -> Result<bool, Unread> {
@@ -171,7 +124,7 @@ impl Files for HostFiles<'_> {
                 Ok(is_held)
             }
             Err(Unread::File) => {
-                self.fail(Refused::new(alloc, path, Access::Lock));
+                self.fail();
                 Err(Unread::File)
             }
             Err(Unread::NoMemory) => Err(Unread::NoMemory),
@@ -191,7 +144,7 @@ impl Files for HostFiles<'_> {
                 Ok(Claimed { bytes, is_locked })
             }
             Err(Unread::File) => {
-                self.fail(Refused::new(alloc, path, Access::Claim));
+                self.fail();
                 Err(Unread::File)
             }
             Err(Unread::NoMemory) => Err(Unread::NoMemory),
@@ -209,7 +162,7 @@ impl Files for HostFiles<'_> {
                 Ok(())
             }
             Err(WriteFailed) => {
-                self.fail(Refused::new(self.rt.alloc(), path, Access::Replace));
+                self.fail();
                 Err(WriteFailed)
             }
         }
@@ -226,7 +179,7 @@ impl Files for HostFiles<'_> {
             }
             Err(WriteFailed) => {
                 part.discard(self.rt);
-                self.fail(None);
+                self.fail();
                 Err(WriteFailed)
             }
         }
@@ -243,7 +196,7 @@ impl Files for HostFiles<'_> {
             }
             Ok(Placed::Exists) => Ok(Placed::Exists),
             Err(WriteFailed) => {
-                self.fail(None);
+                self.fail();
                 Err(WriteFailed)
             }
         }
@@ -337,7 +290,7 @@ fn write_linked(
     write_found(rt, path, bytes, found)
 }
 
-/// Whether this is the file that a path leads to, such as that of a standard stream.
-fn is_file_of(rt: &HostRuntime, path: &str, found: &Metadata) -> bool {
-    fs::metadata(rt, path).is_ok_and(|file| is_one_file(&file, found))
+/// Whether this is the file that a standard stream leads to.
+fn is_file_of(rt: &HostRuntime, stream: &str, found: &Metadata) -> bool {
+    fs::metadata(rt, stream).is_ok_and(|file| is_one_file(&file, found))
 }

@@ -10,10 +10,8 @@ use std::fs::{self, File};
 use std::io::{self, IsTerminal, LineWriter};
 use std::os::fd::AsRawFd;
 use std::process::ExitCode;
-use streams::put_all;
 use words::words_of;
 use z80dev::{End, Watched, WatchedSink, report};
-use z80dev_finish::FILE_FAULT;
 use z80dev_jobs::{Host, command};
 
 /// How many standard streams there are, and the number of the last, which is standard error.
@@ -36,20 +34,7 @@ fn run(rt: &HostRuntime) -> Result<u8, AllocError> {
         errors: WatchedSink::new(rt.stderr()),
         is_terminal,
     };
-    let ended = command(rt.alloc(), &words, host);
-    if ended.status == FILE_FAULT && rt.stderr().is_terminal() {
-        explain(rt, &ended.host.files);
-    }
-    Ok(ended.status)
-}
-
-/// Prints why a file could not be used, after the line that names it.
-fn explain(rt: &HostRuntime, files: &HostFiles<'_>) {
-    let Some(reason) = files.reason() else {
-        return;
-    };
-    let mut errors = WatchedSink::new(rt.stderr());
-    let _ = put_all(&mut errors, &[b"note: ", reason.as_bytes(), b"\n"]);
+    Ok(command(rt.alloc(), &words, host).status)
 }
 
 /// Opens a folder, or if this program may open none, a device that is there on nearly every system.

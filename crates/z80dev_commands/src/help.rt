@@ -51,9 +51,7 @@ why. Prints nothing but warnings; with --grow, prints a line `grown PATH(LINE)`
 for each JR that became a JP.
 
 Without --out, BASE is the path of the first SRC without its ending: src/game
-for src/game.asm. With --out, an ending is added all the same: --out game.com
-writes game.com.com, and --out folder/ writes folder/.com. With --list, it also
-writes BASE.lst and BASE.sym.
+for src/game.asm. With --list, it also writes BASE.lst and BASE.sym.
 
 With --map, it also writes BASE.map, for people: the addresses of each module,
 its bytes of code, data and space, its public names, the jumps that are short
@@ -142,9 +140,7 @@ which `z80dev build` makes the same bytes. Writes nothing.
 What the program reaches from 0100H by jumps and calls is printed as
 instructions, and the rest as data. If it also jumps to an address that it
 computes or reads from a table, give that address with --entry, which may be
-given several times. ADDR is a number as in a source, such as 0150H or 336. Do
-not leave out the H: 0150 is 150, while a command of `z80dev debug` takes 0150
-as 0150H.
+given several times. ADDR is a number as in a source, such as 0150H or 336.
 
 With --labels, the labels have the names of SYM, which `z80dev build --list`
 writes, except those that two modules have. Without a name, a label is L and its
@@ -188,12 +184,6 @@ in one step: IMG has the old file or the new one.
 
 With --text, each LF becomes CR LF, and 1AH is added at the end.
 
-`error: BadName` means that NAME has a lower-case letter or is no name of CP/M
-in another way; `z80dev put --to` writes the name in upper case itself. IMG
-comes first, also with --to: a file that is no image may count as a short image
-without files, and is then written over. An IMG that ends with .com, as that of
-a program does, is refused: `error: Overwrites(IMG)`.
-
 IMG is locked from before it is read until it is replaced. A second command that
 needs the lock waits up to a second, then ends with `error: file IMG`, status 3.
 With --no-lock, nothing waits, and of two commands that change IMG at the same
@@ -223,8 +213,7 @@ without a warning, unless it is IMG: then there is a line
 
 NAME may have ? and * in it, as `z80dev dir --help` explains. Each file that
 matches is then written into the folder FILE under its own name. With --all,
-every file of the user is written into FOLDER. The folder has to be there. Files
-of these names in the folder are replaced too, so use a folder of its own.
+every file of the user is written into FOLDER. The folder has to be there.
 
 With --text, a file ends at its first 1AH, and each CR LF becomes LF.
 
@@ -237,8 +226,7 @@ pub(crate) const ERASE: &str =
     r"Reads IMG and writes it without the files NAME. Each NAME is in upper case, as
 GAME.COM; it may have ? and * in it, as `z80dev dir --help` explains. If one of
 the files is read-only, nothing is erased, and there is a line such as
-`error: ReadOnly(GAME.COM)`. If a NAME matches no file besides those of the NAMEs
-before it, nothing is erased either: `error: NotFound(GAME.COM)`. Prints nothing.
+`error: ReadOnly(GAME.COM)`. Prints nothing.
 
 IMG is locked and replaced as `z80dev put --help` explains.
 
@@ -344,8 +332,8 @@ The status is 0 if the program finished, you left, or the session of REC is
 over; 1 with a line `stopped: WHY at PPPP` if the program was stopped, or with a
 line `error: ..` if IMG is not an image of a disk or REC is not the record of a
 session; 2 if a word of the command is wrong, as a FILE that is COM, IMG or REC
-or ends with .com, .asm or .img; and 3 if a file cannot be read or written, IMG
-cannot be locked, or standard input or output fails.
+or ends with .com; and 3 if a file cannot be read or written, IMG cannot be
+locked, or standard input or output fails.
 
 Example: z80dev-play --disk game.img game.com
 runs game.com at the keyboard.";
@@ -375,21 +363,18 @@ counts as such a one, and is right.)
 
 --trace writes such a line for each of the first 1,000,000 steps to TRC: its
 number, the address, the label, the instruction's bytes and text, and the
-registers that it changed. A TRC or PRF that exists is replaced without a
-warning. --profile writes to PRF how often the instruction at each address ran,
-most often first; with --list, it writes the lines of LST instead, each after
-how often its instruction ran. With --labels, each address has the label of SYM
-before it and how many bytes after it.
+registers that it changed. --profile writes to PRF how often the instruction at
+each address ran, most often first; with --list, it writes the lines of LST
+instead, each after how often its instruction ran. With --labels, each address
+has the label of SYM before it and how many bytes after it.
 
-The status is 0 if the program ends by itself, also if it ran on past its last
-byte and came to its end by mistake, which only --regs tells. It is 1 if
-something stops it or it is too long to be loaded; then standard error has a
-line `stopped: WHY at PPPP`. If a file or an option is at fault, there is a line
-`error: ..` instead: the status is 1 if IMG is not an image of a disk, if SYM is
-not a file of labels, if TRC or PRF is a file that is read or ends with .com,
-.asm or .img, or they are the same, if IMG ends with .com, or if --list is given
-without --profile, or --labels without --regs, --last, --trace and --profile,
-and 3 if a file cannot be read or written or IMG cannot be locked. If TRC or PRF
-cannot be written, the line comes after the others.
+The status is 0 if the program ends by itself, and 1 if something stops it or it
+is too long to be loaded; then standard error has a line `stopped: WHY at PPPP`.
+If a file or an option is at fault, there is a line `error: ..` instead: the
+status is 1 if IMG is not an image of a disk, if SYM is not a file of labels, if
+TRC or PRF is a file that is read or ends with .com or they are the same, or if
+--list is given without --profile, or --labels without --regs, --last, --trace
+and --profile, and 3 if a file cannot be read or written or IMG cannot be
+locked. If TRC or PRF cannot be written, the line comes after the others.
 
 Example: z80dev run --disk a.img game.com FILE.TXT";

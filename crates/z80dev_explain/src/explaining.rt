@@ -282,8 +282,7 @@ fn all_of_front(
 ) -> Result<Vec<Report>, AllocError>
     ensures { IfOk result (λ reports. 0 < length reports.items) }
 {
-    let before = front_lines(sources.front);
-    let mut gathered = Gathered::new(alloc, key_of(sources), before, most_of(form));
+    let mut gathered = Gathered::new(alloc, key_of(sources), 0, most_of(form));
     put_errors(alloc, sources, 0, false, &mut gathered)?;
     let mut reports = gathered.into_reports();
     put_unshared(alloc, sources, &mut reports)?;

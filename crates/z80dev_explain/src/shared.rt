@@ -21,6 +21,7 @@ fn unshared(alloc: Global, sources: &Sources<'_, '_>, line: u32) -> Result<Repor
         at: Some(sources.named(alloc, 0, line, b"")?),
         text: String::from_str(alloc, "a shared file may not have this line")?,
         name: String::from_str(alloc, "NotShared")?,
+        about: Vec::new(alloc),
         notes,
     })
 }
@@ -57,6 +58,7 @@ pub(crate) fn put_told(
         at: None,
         text: String::from_str(alloc, "the shared files have an error")?,
         name: format!(in alloc; "{told}")?,
+        about: Vec::new(alloc),
         notes: Vec::new(alloc),
     })?;
     Ok(())

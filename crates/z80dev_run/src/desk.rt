@@ -113,7 +113,7 @@ impl<I: Input, S: Sink> Desk<I, S> {
         ensures output { result.output ≡ output }
         ensures screen { result.screen ≡ record { codes = codes; pending = Nothing } }
         ensures keys { result.keys ≡ keys }
-        ensures rhythm { result.rhythm ≡ record { paused = 0; heard = 0; is_busy = true; allowance = 1048576 } }
+        ensures rhythm { result.rhythm ≡ record { paused = 0; heard = 0; is_busy = true } }
         ensures half { result.is_leaving ≡ false }
     {
         Desk {
@@ -235,7 +235,7 @@ impl<I: Input, S: Sink> Desk<I, S> {
         if bytes.is_empty() {
             return Ok(());
         }
-        self.rhythm.show(bytes.len() as u64);
+        self.rhythm.work();
         if self.screen.codes == Codes::Plain {
             return match print(&mut self.output, bytes) {
                 Ok(()) => Ok(()),

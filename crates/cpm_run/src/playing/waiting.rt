@@ -1,6 +1,6 @@
 //! What a session does before a step that asks for input.
 
-ghost use Rattle.std.specs.Prelude.{◌≡◌, ◌≢◌, ◌<◌, ◌≤◌, ◌+◌, ◌⊎◌, [], IfOk, List, OnOk, Option, Some, false, true, ℕ};
+ghost use Rattle.std.specs.Prelude.{◌≡◌, ◌≢◌, ◌<◌, ◌≤◌, ◌+◌, [], IfOk, List, OnOk, Option, Some, false, true, ℕ};
 ghost use Rattle.cpm_console.specs.Dialog.{dialog_of, put_by};
 ghost use Rattle.cpm_console.specs.Line.{NoInput, line_transcript, typed_line};
 ghost use Rattle.cpm_console.specs.Screen.{screen};
@@ -116,10 +116,7 @@ impl<S: Sectors> Playing<S> {
         };
         self.ahead.extend_from_slice(more)?;
         match station.show(more) {
-            Ok(()) => {
-                self.allowance = self.allowance.saturating_sub(more.len() as u64);
-                Ok(echo.is_whole)
-            }
+            Ok(()) => Ok(echo.is_whole),
             Err(_) => Err(PlayEnd::Failed),
         }
     }
@@ -172,7 +169,6 @@ impl<S: Sectors> Playing<S> {
         requires quick { patience ≢ how.Wait }
         ensures still { MakesNoStep self.old self.new }
         ensures looked { OnOk result (self.new.looked ≡ self.new.turns) }
-        ensures allowance { OnOk result (self.new.allowance ≡ 1048576) }
         ensures output { OnOk result (self.new.bdos.terminal.console.output ≡ Some []) }
         ensures ahead { OnOk result (self.new.ahead.items ≡ []) }
         ensures looks { (start : PlayState S) (before : Seat) (a : Attention) → Watched S.sectors S.faults start before self.old (K.seat station.old) a → self.old.ahead.items ≡ [] → IsLookDue patience (state_of self.old []).run self.old.turns a
@@ -183,16 +179,15 @@ impl<S: Sectors> Playing<S> {
         self.listen(alloc, station, patience)
     }
 
-    /// Whether so many steps were made, or so many bytes shown, since the last look at the keyboard that the next step has to wait for another.
+    /// Whether the last look at the keyboard is so long ago that the next step has to wait for another.
     fn is_look_overdue(&self) -> bool
-        ensures yes { result ≡ true → (self.now.looked + 2000000 ≤ self.now.turns) ⊎ (self.now.allowance ≡ 0) }
+        ensures yes { result ≡ true → self.now.looked + 2000000 ≤ self.now.turns }
         ensures no { result ≡ false → self.now.turns < self.now.looked + 2000000 }
-        ensures allowed { result ≡ false → 0 < self.now.allowance }
     {
-        self.allowance == 0 || self.turns.saturating_sub(self.looked) >= LONGEST_UNSEEN
+        self.turns.saturating_sub(self.looked) >= LONGEST_UNSEEN
     }
 
-    /// Looks at the keyboard once if the next step takes what has come, and otherwise if a look is overdue. Even a step that waits may have
+    /// Looks at the keyboard once if the next step takes what has come, and otherwise if nobody has looked for long. Even a step that waits may have
     /// its input already, so without that a person could not leave a program that takes lines without room for a byte.
     fn look_in_time<K: Station>(
         &mut self,

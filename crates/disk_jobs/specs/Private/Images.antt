@@ -5,16 +5,16 @@ use Rattle.streams.specs.Stream.{Stream, counted}
 use Rattle.z80dev_disk.specs.declared.getting.Gotten.{Gotten}
 use Rattle.z80dev_disk.specs.declared.putting.PutFile.{PutFile}
 use Rattle.z80dev_disk.specs.declared.refusal.Refusal.{Refusal}
-use Rattle.z80dev_finish.specs.Files.{Adds, Folder, locked_by}
+use Rattle.z80dev_finish.specs.Files.{Adds, Folder, IsLockWanted, locked_by}
 use Rattle.z80dev_finish.specs.declared.end.End.{End}
 use Rattle.z80dev_finish.specs.declared.end.End.TheVariants as end
-use Rattle.disk_jobs.specs.Disks.{IsChanged, IsNotLocked, MayLock, path_in}
+use Rattle.disk_jobs.specs.Disks.{IsChanged, IsNotLocked, path_in}
 use Rattle.job_steps.specs.Ending.{effect_of}
 use Rattle.job_steps.specs.declared.image.Image.{Image}
 use Rattle.job_steps.specs.Claims.{image_lines}
 
 abbrev pub LocksPath : Folder → Folder → List ℕ → Bool → Result Bool End → Type 0
-LocksPath old new path wanted (Ok is_held) = (new ≡ locked_by old path wanted is_held) × MayLock path wanted is_held
+LocksPath old new path wanted (Ok is_held) = (new ≡ locked_by old path wanted is_held) × IsLockWanted wanted is_held
 LocksPath old new path wanted (Err e) = IsNotLocked old new path e
 
 -- how a command ends that changes a claimed image

@@ -1,7 +1,6 @@
-use Rattle.std.proofs.Common.{◌≤◌, ◌∙◌, [], ℕ, List, inl, subst, sym, ap}
-use Rattle.cpm_run.specs.declared.arriving.Arrival.{Arrival}
+use Rattle.std.proofs.Common.{◌≤◌, ◌∙◌, [], inl, length, subst, sym, ap, arith}
 use Rattle.cpm_run.specs.declared.arriving.PlayEnd.{PlayEnd}
-use Rattle.cpm_run.specs.Play.{FollowsRecord, IsShownAgain, NextIsDue, PlaysOn, ReplayEnds, first_state}
+use Rattle.cpm_run.specs.Play.{FollowsRecord, IsShownAgain, PlaysOn, ReplayEnds, first_state}
 use Rattle.cpm_run.specs.Play.PlaysOn.{same}
 use Rattle.cpm_run.specs.Private.Playing.{state_of}
 use Rattle.cpm_run.proofs.Looking.{no_event}
@@ -31,9 +30,9 @@ returns g c =
       played.arrivals ∙ others.arrivals,
       subst (λ (e : PlayEnd). IsShownAgain e before (g.K.Station.seat c.finish-end.new.station) final) (sym played.end) closed.2,
       λ is.
-          let due = c.repeat-end.ensures.short (ap (λ s. s.arrivals) c.new-playing.ensures.state) (c.finish-end.ensures.short (sym played.end ∙ is)) in
-          subst (λ (n : ℕ). NextIsDue c.args.recorded.now n c.into_played.result.arrivals.items) (sym (played.turns ∙ others.turns))
-          (subst (λ (l : List Arrival). NextIsDue c.args.recorded.now c.repeat-end.new.self.turns l) (sym (played.arrivals ∙ others.arrivals)) due),
+          let few = c.repeat-end.ensures.short (ap (λ s. s.arrivals) c.new-playing.ensures.state) (c.finish-end.ensures.short (sym played.end ∙ is)) in
+          let same = ap length (played.arrivals ∙ others.arrivals) in
+          omega (arith, few, same),
       λ order.
           let none_yet = ap (λ s. s.arrivals) c.new-playing.ensures.state in
           let at_start = ap (λ s. s.turns) c.new-playing.ensures.state in

@@ -52,7 +52,7 @@ returns-in_default-clause-looks g c = λ start before a watched all begins.
 
 pub returns-in-Ok-clause-looks : goal.returns-in-Ok-clause-looks
 returns-in-Ok-clause-looks g c = λ start before a watched all begins.
-    showed_echo _ _ start before (g.K.Station.seat c.args.station.now) (g.K.Station.seat c.show.new.self) c.args.self.now _ a c.in-Some.more.now watched all (sym c.in_ok-echo.ensures.bytes ∙ sym c.deref-2.ensures.value ∙ c.in-Some.ensures ∙ ap (λ (l : List ℕ). l ++ c.in-Some.more.now) c.deref.ensures.value) refl refl refl refl refl refl c.saturating_sub-self.ensures refl c.in_ok-extend_from_slice.ensures.items c.in-Ok.ensures.events
+    showed_echo _ _ start before (g.K.Station.seat c.args.station.now) (g.K.Station.seat c.show.new.self) c.args.self.now _ a c.in-Some.more.now watched all (sym c.in_ok-echo.ensures.bytes ∙ sym c.deref-2.ensures.value ∙ c.in-Some.ensures ∙ ap (λ (l : List ℕ). l ++ c.in-Some.more.now) c.deref.ensures.value) refl refl refl refl refl refl refl c.in_ok-extend_from_slice.ensures.items c.in-Ok.ensures.events
 
 pub returns-clause-looks : goal.returns-clause-looks
 returns-clause-looks g c = λ start before a watched all begins.

@@ -1,9 +1,8 @@
-use Rattle.std.proofs.Common.{◌≡◌, ◌≤◌, ◌+◌, ◌∙◌, ◌∷◌, [], ℕ, Err, Some, ap, length, slice_get, subst, sym, arith}
+use Rattle.std.proofs.Common.{◌≡◌, ◌≤◌, ◌+◌, ◌∙◌, ◌∷◌, [], Err, ap, length, subst, sym, arith}
 use Rattle.std.proofs.lemmas.List.{take_all}
-use Rattle.std.proofs.lemmas.Option.{slice_get-get_or}
 use Rattle.cpm_run.specs.declared.arriving.PlayEnd.TheVariants as play
 use Rattle.cpm_run.specs.Play.{FollowsRecord}
-use Rattle.cpm_run.proofs.Replayed.{KeepsTo, follows, in_time, may_go, no_arrival, one_came, past_time, quiet_still, recorded_at, repeats_to, taken_all, taken_none, took_next, went_last, went_to}
+use Rattle.cpm_run.proofs.Replayed.{KeepsTo, follows, in_time, may_go, one_came, quiet_still, recorded_at, repeats_to, taken_all, taken_none, took_next, went_last, went_to}
 use Rattle.cpm_run.proofs.Sitting.{moved, unasked_on}
 use Rattle.cpm_run.proofs.playing.state.Playing.repeat.Goals as goal
 
@@ -87,12 +86,8 @@ returns-then-is_err-clause-short g c = λ none_yet is.
     let was = c.loop-arrival.invariant.4 none_yet in
     let same = ap length c.in_default.ensures.arrivals in
     let none = ap length (c.take_in.ensures.arrivals ∙ taken_none c.go_to.new.self.turns ((recorded_at c.args.recorded.now c.loop-arrival.arrival-index).byte ∷ []) c.take_in.result c.go_to.new.self.arrivals.items (sym c.is_err.ensures.value ∙ c.if-is_err.true)) in
-    let here = slice_get-get_or c.args.recorded.now c.loop-arrival.arrival-index no_arrival c.loop-arrival-test.true in
-    let reached = c.in_default.ensures.reached in (
-      recorded_at c.args.recorded.now c.loop-arrival.arrival-index,
-      subst (λ (n : ℕ). slice_get c.args.recorded.now n ≡ Some (recorded_at c.args.recorded.now c.loop-arrival.arrival-index)) (sym (none ∙ same ∙ was)) here,
-      past_time (recorded_at c.args.recorded.now c.loop-arrival.arrival-index).turn c.args.limit c.min.result c.go_to.new.self.turns c.take_in.new.self.turns c.min.ensures reached.1 reached.0.below c.take_in.ensures.still.turns,
-    )
+    let inside = c.loop-arrival-test.true in
+    omega (arith, was, same, none, inside)
 
 pub returns-in-Err-clause-short : goal.returns-in-Err-clause-short
 returns-in-Err-clause-short g c = λ none_yet is. absurd (c.in-Err.ensures.memory (ap Err is))

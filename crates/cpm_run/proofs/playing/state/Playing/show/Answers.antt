@@ -1,4 +1,4 @@
-use Rattle.std.proofs.Common.{Result, Some, inl, inr, sym, ap, subst, refl, ◌∙◌, ◌++◌, ◌-◌, List, ℕ}
+use Rattle.std.proofs.Common.{Result, Some, inl, inr, sym, ap, subst, refl, ◌∙◌, ◌++◌, List, ℕ}
 use Rattle.z80_cpu.specs.State.{machine}
 use Rattle.cpm_console.specs.Dialog.{Dialog}
 use Rattle.cpm_bdos.specs.System.{System}
@@ -7,7 +7,7 @@ use Rattle.cpm_run.specs.Play.PlaysOn.{shows}
 use Rattle.cpm_run.specs.Private.Playing.{ShowsRest, state_of}
 use Rattle.cpm_run.specs.declared.station.StationFault.{StationFault}
 use Rattle.std.proofs.lemmas.Result.{err_from_is_err_and}
-use Rattle.cpm_run.proofs.Looking.{as_long, one_put, unasked_not_showed, unasked_showed}
+use Rattle.cpm_run.proofs.Looking.{unasked_not_showed, unasked_showed}
 use Rattle.cpm_run.proofs.Sitting.{shown_all}
 use Rattle.cpm_run.proofs.playing.state.Playing.show.Goals as goal
 
@@ -23,11 +23,6 @@ returns-clause-rest g c = (
       subst (λ (b : System _ Dialog). PlaysOn g.S.Sectors.sectors g.S.Sectors.faults start (record { run = record { machine = machine c.args.self.now.cpu c.args.self.now.memory; system = b }; turns = c.args.self.now.turns; arrivals = c.args.self.now.arrivals.items; shown = shown ++ bytes })) (sym c.clear_output.ensures)
       (shows bytes start (state_of c.args.self.now shown) before put),
 )
-
-pub returns-clause-spent : goal.returns-clause-spent
-returns-clause-spent g c = λ rest put.
-    let whole = one_put _ _ (sym put ∙ ap (λ (d : Dialog). d.output) (sym c.console.ensures) ∙ c.output-put.ensures) ∙ c.in-Some.ensures ∙ ap (λ (l : List ℕ). l ++ c.in-Some.rest.now) c.deref.ensures.value in
-    c.saturating_sub-self.ensures ∙ ap (λ (n : ℕ). c.args.self.now.allowance - n) (sym (as_long c.args.self.now.ahead.items rest c.in-Some.rest.now whole))
 
 pub returns-in_default-clause-events : goal.returns-in_default-clause-events
 returns-in_default-clause-events g c =
