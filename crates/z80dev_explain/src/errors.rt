@@ -516,7 +516,8 @@ impl<'s, 'f> Faulty<'s, 'f> {
                 Some(finding) if is_stop(group, finding) => {
                     self.put_stop(group, finding, gathered)?
                 }
-                Some(finding) => self.put_group(findings, group, finding, gathered)?,
+                // Lent again, since the findings are asked for as long as the source.
+                Some(finding) => (&*self).put_group(&*findings, group, finding, gathered)?,
                 None => (),
             }
         }
