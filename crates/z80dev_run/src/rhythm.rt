@@ -13,12 +13,12 @@ const BUSY: u64 = 2_000_000;
 /// The same if it has not. Then nearly all the time is spent in waiting, so that a program that only looks for a key leaves the processor free.
 const IDLE: u64 = 200_000;
 
-/// How many bytes may be shown between two looks, if each key comes as it is pressed. One call of the system may show 60,000 bytes, so without
-/// that a person who wants to leave would wait for gigabytes.
+/// Once this number of bytes are shown since the last look, the next one is made at once, if keys come as they are pressed. One call of the
+/// system may show 60,000 bytes, so by steps alone a person who wants to leave would wait for gigabytes.
 const MOST_UNSEEN: u64 = 1_048_576;
 
-/// By lines, no look is put off any more this number of steps after the last read, so that a program that shows something all the time is given
-/// what has come. It may have to wait for a line then, so this is half a second and more.
+/// By lines, a look is put off only until this number of steps after the last read, so that a program that shows something all the time is given
+/// what has come. Then it may have to wait until a line comes, so these steps take half a second and more.
 const LONGEST_BUSY: u64 = 100_000_000;
 
 /// When the keyboard was looked at, and whether something has happened since.
@@ -93,8 +93,9 @@ impl Rhythm {
         if self.is_busy { BUSY } else { IDLE }
     }
 
-    /// Whether the keyboard is to be looked at now. A look may last until a line comes if keys come by lines. So then nobody looks for a person
-    /// who wants to leave, which lines cannot say, and if the program asks for keys, it has to be idle, or to have been busy for long.
+    /// Whether the keyboard is to be looked at now. If keys come by lines, a look may last until a line comes. So the desk does not look then for
+    /// a person who wants to leave, which lines cannot say; and if the program asks for keys, it looks only if the program is idle, or has been
+    /// busy for long.
     pub(crate) fn is_due(&mut self, keys: Keys, turns: u64, patience: Patience) -> bool
         ensures due { result ≡ is_due keys self.old turns patience }
         ensures next { self.new ≡ after_asking keys self.old turns patience }

@@ -14,7 +14,7 @@ abbrev pub is_put_off : Keys → Rhythm → ℕ → Bool
 is_put_off keys.Lines r turns = r.is_busy && nat_lt (turns - r.heard) 100000000
 is_put_off keys.Raw r turns = false
 
--- So much was shown since the last look, each key coming as it is pressed, that the next look is made at once.
+-- Keys come as they are pressed, and so much was shown since the last look that the next one is made at once.
 abbrev pub is_loud : Keys → Rhythm → Bool
 is_loud keys.Raw r = r.allowance == 0
 is_loud keys.Lines r = false
@@ -23,17 +23,17 @@ is_loud keys.Lines r = false
 abbrev pub pause : Rhythm → ℕ
 pause r = if r.is_busy then 2000000 else 200000
 
--- A session that waits looks at once. One that glances, so that a person can leave, does not look by lines. Any other look is due after the
--- pause, unless it is put off; or if each key comes as it is pressed, before that, once 1,048,576 bytes are shown since the last look. So if a session
--- glances because of what it has shown, the desk looks too: it has shown as much since its own last look, or more.
+-- If the session waits, the desk looks at once. If it glances, so that a person can leave, the desk looks only if keys come as they are pressed. Such
+-- a glance, and a poll that is not put off, is due after the pause. If keys come as they are pressed, it is due earlier once 1,048,576 bytes are shown
+-- since the last look. So if the session glances because of what it has shown, the desk looks: it has shown as much since its own last look, or more.
 abbrev pub is_due : Keys → Rhythm → ℕ → Patience → Bool
 is_due how_keys r turns how.Wait = true
 is_due keys.Lines r turns how.Glance = false
 is_due keys.Raw r turns how.Glance = is_loud keys.Raw r || nat_le (pause r) (turns - r.paused)
 is_due how_keys r turns how.Poll = not (is_put_off how_keys r turns) && (is_loud how_keys r || nat_le (pause r) (turns - r.paused))
 
--- A look that is put off is no read, but a pause begins with it, in which the program is idle until it does something. If it is always busy, the
--- next look is due 2,000,000 steps after the last one that was put off, which may be 102,000,000 steps after the last read.
+-- The desk does not read for a look that is put off, but a new pause begins, in which the program is idle until it shows something. If it is always
+-- busy, a look is due 2,000,000 steps after the last one that was put off, and that may be 102,000,000 steps after the last read.
 abbrev pub put_off : Rhythm → ℕ → Rhythm
 put_off r turns = record r { paused = turns; is_busy = false }
 
@@ -42,14 +42,14 @@ after_asking how_keys r turns how.Wait = r
 after_asking how_keys r turns how.Glance = r
 after_asking how_keys r turns how.Poll = if is_put_off how_keys r turns then put_off r turns else r
 
--- a byte came in a look that has this answer
+-- Keys came in a look with this answer.
 abbrev pub has_come : Result Came StationFault → Bool
 has_come (Ok (came.Bytes count)) = nat_lt 0 count
 has_come (Ok came.Leave) = true
 has_come (Ok came.End) = false
 has_come (Err fault) = false
 
--- a look that has this answer has read once, unless no byte will ever come, or it failed
+-- A look with this answer has read once. This says nothing if no byte will ever come, or if the look failed.
 abbrev pub HasRead : Result Came StationFault → ℕ → ℕ → Type 0
 HasRead answer old new = IfOk answer (λ what. what ≢ came.End → new ≡ old + 1)
 
