@@ -14,8 +14,8 @@ pub record AlikeSessions {S : Type 0} (sectors : S → Image) (a b : PlayState S
   pub machine : b.run.machine ≡ a.run.machine
   pub system : AlikeSystems sectors (λ d. d) (Some (a.shown, b.shown)) a.run.system b.run.system
 
--- What two screens got in a session that ended so and in the same session again: the same bytes. If the person left, the first may have got the echo of
--- a line after them.
+-- What the screen got in a session that ended in this way, and what the screen got when the session was played again: the same bytes. If the person
+-- left, the first may have got the echo of a line after them.
 pub record SameShown (end : PlayEnd) (before after again_before again_after : Seat) : Type 0 where
   pub bytes : List ℕ
   pub echo : List ℕ

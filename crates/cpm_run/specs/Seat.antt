@@ -6,16 +6,16 @@ use Rattle.cpm_run.specs.declared.station.Came.TheVariants as came
 use Rattle.cpm_run.specs.declared.station.Patience.{Patience}
 use Rattle.cpm_run.specs.declared.station.StationFault.{StationFault}
 
--- What happens at a keyboard and a screen: after this number of steps the keyboard is asked in this way, and answers this; these bytes are shown;
--- or the screen does not take them all.
+-- What happens at a keyboard and a screen. After this number of steps the keyboard is asked in this way, and gives this answer; or these bytes are
+-- shown; or the screen does not take all of them.
 pub data SeatEvent : Type 0 where
   asked : ℕ → Patience → Result Came StationFault → SeatEvent
   showed : List ℕ → SeatEvent
   not_showed : List ℕ → SeatEvent
 
--- The screen: what it has got in all once the program has put these bytes too, where that is known. The keyboard: the bytes of the keys that
--- will come, where they are known; and whether the person leaves by these keys, if they are the next. What has happened so far at both, in its
--- order, where that is known.
+-- `screen`: all that the screen has got once these bytes are shown too, if that is known. `coming`: the bytes of the keys that will come, if they are
+-- known. `leaves`: whether the person leaves by these keys, if they are the next to come. `events`: what has happened at both so far, in order, if
+-- that is known.
 pub record Seat : Type 0 where
   pub screen : List ℕ → Option (List ℕ)
   pub coming : Option (List ℕ)
@@ -45,8 +45,8 @@ pub record Leaves (keys : List ℕ) (old new : Seat) : Type 0 where
   pub coming : Consumes old.coming new.coming keys
   pub leaves : old.leaves keys ≡ true
 
--- What a keyboard did when it was asked: keys came, and their bytes are at the front of the buffer; no byte is left, and the keyboard expects none;
--- or the person left. If it fails, this does not say which keys are still to come.
+-- What a keyboard did when it was asked. Keys came, and their bytes are at the front of the buffer; or no byte is left, and the keyboard expects none;
+-- or the person left. If the keyboard failed, nothing is known of the keys that are still to come.
 abbrev pub Hears : Seat → Seat → Result Came StationFault → List ℕ → Type 0
 Hears old new (Ok (came.Bytes count)) buffer = Takes (take count buffer) old new
 Hears old new (Ok came.End) buffer = Takes [] old new × IsAtEnd new.coming
@@ -64,7 +64,7 @@ pub record ShowsBytes (bytes : List ℕ) (old new : Seat) : Type 0 where
   pub leaves : new.leaves ≡ old.leaves
   pub events : new.events ≡ with_events (SeatEvent.showed bytes ∷ []) old.events
 
--- What a screen did with bytes. If it fails, this does not say what it shows.
+-- What a screen did with bytes. If it failed, nothing is known of what it shows.
 abbrev pub TriesToShow : List ℕ → Seat → Seat → Result Unit StationFault → Type 0
 TriesToShow bytes old new (Ok done) = ShowsBytes bytes old new
 TriesToShow bytes old new (Err fault) = (new.coming ≡ old.coming) × (new.leaves ≡ old.leaves) × (new.events ≡ with_events (SeatEvent.not_showed bytes ∷ []) old.events)

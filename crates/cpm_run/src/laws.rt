@@ -68,8 +68,8 @@ pub fn bytes_in_order<S: Sectors>()
 {}
 
 /// A session that is played again from its own record ends as it did: for the same reason, after the same number of steps, with the same PC
-/// and a disk that looks alike, the same bytes came, and the same bytes were shown, besides the echo of a line that was not finished when the
-/// person left. This does not hold if memory ran out, or if the disk, the console, the keyboard or the screen failed, in either of the two.
+/// and a disk that looks alike. The same bytes came, and the same bytes were shown, except the echo of a line that was not finished when the
+/// person left. This is not said if memory ran out, or if the disk, the console, the keyboard or the screen failed, in either of the two.
 pub fn replayed_alike<S: Sectors>()
     ensures { (file : List ℕ) (words : List (List ℕ)) (disk other left there : Mounted S) (limit turns steps pc address : ℕ) (before after seat screen : Seat) (end cause : PlayEnd) (arrivals came : List Arrival) →
         AlikeDisks S.sectors disk other → EndsUndisturbed end → EndsUndisturbed cause →

@@ -23,7 +23,7 @@ use state::Playing;
 use std::alloc::Global;
 
 /// The machine makes at most this number of steps before the session may look at the keyboard again, so that a person can leave a program
-/// that makes no calls. A look comes only once `LONGEST_UNSEEN` steps follow the last one, so up to 4,000,000 steps are between two looks.
+/// that makes no calls. A look is made only once the last one is `LONGEST_UNSEEN` steps ago, so two looks are up to 4,000,000 steps apart.
 pub(crate) const SLICE: u64 = 2_000_000;
 
 /// How a session ended, the disk then, and the bytes that came.

@@ -30,8 +30,8 @@ const SYSTEM: Watch = Watch {
 /// At most this number of bytes are put before they are shown.
 const MOST_HELD: usize = 4_096;
 
-/// Once this number of bytes are shown, the keyboard is looked at before the next call of the system. One call may show 60,000 bytes, so
-/// without that a person would wait for gigabytes before the steps suffice for a look.
+/// Once this number of bytes are shown, the session looks at the keyboard before the next call of the system. One call may show 60,000 bytes,
+/// so gigabytes may be shown before the number of steps makes a look due.
 const MOST_UNSEEN: u64 = 1_048_576;
 
 /// A session.

@@ -21,7 +21,7 @@ use std::alloc::{AllocError, Global};
 /// How often the keyboard is asked for a byte before a session gives up. At ten times a second that takes 13 years.
 const MOST_WAITS: u32 = u32::MAX;
 
-/// Once this number of steps follows the last look at the keyboard, `attend` looks whatever the next step is, so that a person can leave every
+/// Once the last look at the keyboard is this number of steps ago, `attend` looks whatever the next step is, so that a person can leave every
 /// program.
 const LONGEST_UNSEEN: u64 = 2_000_000;
 
@@ -192,8 +192,8 @@ impl<S: Sectors> Playing<S> {
         self.allowance == 0 || self.turns.saturating_sub(self.looked) >= LONGEST_UNSEEN
     }
 
-    /// Looks at the keyboard once if the next step takes what has come, and otherwise if a look is overdue. Even a step that waits may have
-    /// its input already, so without that a person could not leave a program that takes lines without room for a byte.
+    /// Looks at the keyboard once if the next step takes what has come, and otherwise if a look is overdue. This includes a step that waits,
+    /// since it may have its input already: a program that only takes lines without room for a byte never has to wait.
     fn look_in_time<K: Station>(
         &mut self,
         alloc: Global,
