@@ -1,5 +1,5 @@
 -- What `explain` answers for sources.
-use Rattle.std.specs.Prelude.{◌≡◌, ◌<◌, ℕ, ◌+◌, Bool, true, false, List, [], Result, Ok, Err, is_ok, length, map}
+use Rattle.std.specs.Prelude.{◌≡◌, ℕ, ◌+◌, Bool, true, false, List, [], Result, Ok, Err, is_ok, length, map}
 use Rattle.std.specs.List.{AllZip, list_any, sum_by}
 use Rattle.shared_lines.specs.Front.{CountsLines, front_lines}
 use Rattle.zlink.specs.Built.{IsBuilt}
@@ -13,12 +13,13 @@ use Rattle.shared_lines.specs.declared.front.SourceFile.{SourceFile}
 use Rattle.shared_lines.specs.declared.front.Front.{Front}
 use Rattle.report_texts.specs.declared.report.Report.{Report}
 use Rattle.asm_module.specs.declared.fault.AsmFault.{AsmFault}
-use Rattle.report_texts.specs.Repeats.{HasNoRepeats, without_repeats}
+use Rattle.report_texts.specs.Repeats.{HasNoRepeats}
 use Rattle.report_texts.specs.Reports.{bears_name}
 use Rattle.link_errors.specs.Names.{link_name}
 use Rattle.program_warnings.specs.Counts.{HasWarnings, warning_count}
 use Rattle.program_warnings.specs.Longs.{AreLongNotes}
 use Rattle.zmo_module.specs.Modules.{module_of}
+use Rattle.z80dev_explain.specs.Refused.{is_of_refusal}
 use Rattle.z80dev_explain.specs.Reports.{is_report_of}
 
 -- Sources after a front have this number of warnings in their own lines.
@@ -29,12 +30,10 @@ pub record AreWarned (front : Front) (behind : List Source) (count : ℕ) : Type
   pub each : AllZip (λ s n. HasWarnings before s.text.now n) behind counts
   pub all : count ≡ sum_by (λ n. n) counts
 
--- One of the reports is of the error of this source for which building refuses it. Errors that are written in one of the first `before` lines, which
--- each source has, are reported for the first source that has them, and not again.
+-- One of the reports is of the error of this source for which building refuses it, and no two are of one error that is written in the first `before`
+-- lines, which each source has.
 pub record HasErrorOnce (before : ℕ) (source : ℕ) (fault : AsmFault) (reports : List Report) : Type 0 where
-  pub all : List Report
   pub has : list_any (is_report_of source fault) reports ≡ true
-  pub once : reports ≡ without_repeats before [] all
   pub distinct : HasNoRepeats before reports
 
 -- The same, of sources after a front: its lines are the first ones.
@@ -64,15 +63,16 @@ pub record IsExplainedBehind (front : Front) (grow jumps : Bool) (files : List S
   pub reported : AreReports front behind building reports
   pub long : AreLongs building jumps longs
 
--- the reports for a front that has an error by itself: at least one, and no two for one error
-abbrev pub AreFrontErrors : Front → List Report → Type 0
-AreFrontErrors front reports = (0 < length reports) × ((before : ℕ) × CountsLines before (front_lines front) × HasNoRepeats before reports)
+-- the reports for a front that building refuses by itself with this text: one of them is of that error, and no two are of one error
+abbrev pub AreFrontErrors : Front → List ℕ → List Report → Type 0
+AreFrontErrors front said reports =
+    (list_any (is_of_refusal front said) reports ≡ true) × ((before : ℕ) × CountsLines before (front_lines front) × HasNoRepeats before reports)
 
--- there is no program because of the front
-abbrev pub IsFrontFaulty : Front → Bool → List Report → List Report → Type 0
-IsFrontFaulty front has_program reports longs = (has_program ≡ false) × AreFrontErrors front reports × (longs ≡ [])
+-- there is no program because of the front, which building refuses with this text
+abbrev pub IsFrontFaulty : Front → List ℕ → Bool → List Report → List Report → Type 0
+IsFrontFaulty front said has_program reports longs = (has_program ≡ false) × AreFrontErrors front said reports × (longs ≡ [])
 
 -- What is said of sources and the front before them. If the front has an error by itself, the sources are not looked at.
 abbrev pub IsExplained : Front → Bool → Bool → List SourceFile → Bool → List Report → List Report → Type 0
 IsExplained front grow jumps files has_program reports longs =
-    UnlessFaulty front (λ said. IsFrontFaulty front has_program reports longs) (IsExplainedBehind front grow jumps files has_program reports longs)
+    UnlessFaulty front (λ said. IsFrontFaulty front said has_program reports longs) (IsExplainedBehind front grow jumps files has_program reports longs)

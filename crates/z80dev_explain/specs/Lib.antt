@@ -1,3 +1,5 @@
 pub mod Reports
+pub mod Refused
 pub mod Explained
 pub mod Explanation
+pub mod Private

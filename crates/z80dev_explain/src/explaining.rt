@@ -1,11 +1,12 @@
 //! Explains why sources have no program, or what to look at in the one that they have.
 
-ghost use Rattle.std.specs.Prelude.{◌≡◌, ◌<◌, ◌+◌, ℕ, All, IfOk, List, Ok, length, map, option_copied, true};
+ghost use Rattle.std.specs.Prelude.{◌≡◌, ◌+◌, ℕ, All, IfOk, List, Ok, length, map, option_copied, true};
 ghost use Rattle.std.specs.List.{AllZip, list_any, sum_by};
 ghost use Rattle.shared_lines.specs.Front.{CountsLines, front_lines};
 ghost use Rattle.zmo_module.specs.Modules.{module_of};
 ghost use Rattle.zmo_module.specs.Rules.{IsModule};
 ghost use Rattle.shared_lines.specs.Behind.{IsBehind};
+ghost use Rattle.shared_lines.specs.Faults.Refusals.{told_text};
 ghost use Rattle.report_texts.specs.Reports.{is_in_line, is_error, bears_name};
 ghost use Rattle.link_errors.specs.Names.{link_name};
 ghost use Rattle.program_warnings.specs.Counts.{HasWarnings, warning_count};
@@ -14,7 +15,8 @@ ghost use Rattle.z80dev_explain.specs.Reports.{is_report_of};
 
 use crate::errors::{put_errors, report_of};
 use crate::gathering::Gathered;
-use crate::shared::{put_told, put_unshared};
+use crate::refused::{has_told, only_told};
+use crate::shared::put_unshared;
 use asm_module::{AsmFault, Lines, Module, assemble_with};
 use common::{KeyMixer, NameKey};
 use link_errors::{name_of, put_link_errors, put_plain};
@@ -273,25 +275,18 @@ fn explain_behind(
     }
 }
 
-/// Answers all errors that are found in a front, given the first of them.
+/// Answers all errors that are found in a front.
 fn all_of_front(
     alloc: Global,
     sources: &Sources<'_, '_>,
-    told: Told<'_>,
     form: Form,
-) -> Result<Vec<Report>, AllocError>
-    ensures { IfOk result (λ reports. 0 < length reports.items) }
-{
+) -> Result<Vec<Report>, AllocError> {
     let before = front_lines(sources.front);
     let mut gathered = Gathered::new(alloc, key_of(sources), before, most_of(form));
     put_errors(alloc, sources, 0, false, &mut gathered)?;
     let mut reports = gathered.into_reports();
     put_unshared(alloc, sources, &mut reports)?;
-    let mut reports = sorted(reports)?;
-    if reports.is_empty() {
-        put_told(alloc, told, &mut reports)?;
-    }
-    Ok(reports)
+    sorted(reports)
 }
 
 /// Answers the errors of a front, each once, given its text and the first of them.
@@ -302,7 +297,7 @@ fn front_errors<'a>(
     told: Told<'a>,
     form: Form,
 ) -> Result<Vec<Report>, AllocError>
-    ensures { IfOk result (λ reports. AreFrontErrors front.entry reports.items) }
+    ensures { IfOk result (λ reports. AreFrontErrors front.entry (told_text told.entry) reports.items) }
 {
     let mut texts = Vec::new(alloc);
     texts.push(before)?;
@@ -314,9 +309,13 @@ fn front_errors<'a>(
         texts: &texts,
         lines: &lines,
     };
-    let all = all_of_front(alloc, &sources, told, form)?;
+    let all = all_of_front(alloc, &sources, form)?;
     let once = without_repeats(alloc, key_of(&sources), front_lines(front), all)?;
-    Ok(once)
+    // It is there, since it is an error of the front too. No clause says that, so it is looked for.
+    if has_told(front, told, &once) {
+        return Ok(once);
+    }
+    only_told(alloc, told)
 }
 
 /// Builds sources after a front, writes nothing, and answers their errors, in the order of the sources and their lines; or if there are none,

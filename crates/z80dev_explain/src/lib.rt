@@ -8,6 +8,7 @@ mod adapting;
 mod errors;
 mod explaining;
 mod gathering;
+mod refused;
 mod shared;
 mod summing;
 

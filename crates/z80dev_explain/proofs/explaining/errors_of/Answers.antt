@@ -5,8 +5,6 @@ use Rattle.z80dev_explain.proofs.explaining.errors_of.Goals as goal
 
 pub returns-then-has : goal.returns-then-has
 returns-then-has c = record {
-  all = c.in_ok-all.all.items;
   has = subst (λ reports. list_any (is_report_of c.args.source c.args.fault) reports ≡ true) c.deref.ensures.value (sym c.has.ensures ∙ c.if-has.true);
-  once = c.in_ok-once.ensures.once;
   distinct = c.in_ok-once.ensures.distinct;
 }

@@ -1,9 +1,12 @@
-use Rattle.std.proofs.Common.{◌<◌, length, subst, sym}
-use Rattle.z80dev_explain.proofs.Fronts.{some_stay}
+use Rattle.std.proofs.Common.{◌≡◌, ◌∙◌, subst, sym, true}
+use Rattle.std.specs.List.{list_any}
+use Rattle.z80dev_explain.proofs.Refusals.{some_of_told}
+use Rattle.z80dev_explain.specs.Private.Told.{is_of_told}
 use Rattle.z80dev_explain.proofs.explaining.front_errors.Goals as goal
 
-pub returns : goal.returns
-returns c = (
-  subst (λ rs. 0 < length rs) (sym c.in_ok-once.ensures.once) (some_stay c.front_lines.result c.in_ok-all.all.items c.in_ok-all.ensures),
+pub returns-then-has_told : goal.returns-then-has_told
+returns-then-has_told c = (
+  some_of_told c.args.front c.args.told c.in_ok-once.once.items
+      (subst (λ reports. list_any (is_of_told c.args.front c.args.told) reports ≡ true) c.deref.ensures.value (sym c.has_told.ensures ∙ c.if-has_told.true)),
   (c.front_lines.result, c.front_lines.ensures, c.in_ok-once.ensures.distinct),
 )

@@ -9,8 +9,6 @@ returns c =
     let report = c.in_ok-report.report in
     let items : c.push.new.self.items ≡ report ∷ [] = search (rules, c.in_ok-push.ensures.items) in
     subst (HasErrorOnce c.args.sources.now.before c.args.source c.args.fault) (sym items) (record {
-      all = report ∷ [];
       has = last_is (is_report_of c.args.source c.args.fault) report c.in_ok-report.ensures;
-      once = refl;
       distinct = (refl, tt);
     })
