@@ -99,7 +99,7 @@ _z80dev() {
                 [[ "$option" != --user ]] || user=$each
                 option=''
             fi
-        elif [[ "$each" =~ ^(--(out|define|with|labels|entry|disk|steps|last|trace|profile|input|user|symbols|color|terminal|record)|-o)$ || "$command $each" =~ ^(run|debug)\ --list$ ]]; then
+        elif [[ "$each" =~ ^(--(out|define|with|labels|entry|data|disk|steps|last|trace|profile|input|user|symbols|color|terminal|record|replay)|-o)$ || "$command $each" =~ ^(run|debug)\ --list$ ]]; then
             option=$each
         elif [[ "$each" == --to || "$each" == --all ]]; then
             several=$each
@@ -132,7 +132,7 @@ _z80dev() {
     build) options='-o --out --grow --list --map --symbols -v --verbose --no-warn --define --with -h --help' ;;
     explain) options='--grow --jumps --json --color --define --with -h --help' ;;
     check | check-disk) options='-h --help' ;;
-    dis) options='--labels --entry -h --help' ;;
+    dis) options='--labels --entry --data -h --help' ;;
     dir) options='--user --long -h --help' ;;
     put) options='--to --replace --text --user --no-lock -h --help' ;;
     get) options='--all --text --user -h --help' ;;

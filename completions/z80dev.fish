@@ -18,7 +18,7 @@ function __z80dev_operands
             set is_value no
         else if contains -- "$words[2] $word" 'run --list' 'debug --list'
             set is_value yes
-        else if contains -- $word --out -o --define --with --labels --entry --disk --steps --last --trace --profile --input --user --symbols --color --terminal --record --replay
+        else if contains -- $word --out -o --define --with --labels --entry --data --disk --steps --last --trace --profile --input --user --symbols --color --terminal --record --replay
             set is_value yes
         else if not string match -q -- '-*' $word
             echo $word
@@ -129,6 +129,7 @@ complete -c z80dev -n '__z80dev_at check 1' -a '(__z80dev_files crt)' -d Certifi
 complete -c z80dev -n '__z80dev_at dis' -s h -l help -d 'Print help'
 complete -c z80dev -n '__z80dev_at dis' -l labels -x -a '(__z80dev_files sym)' -d 'File of labels'
 complete -c z80dev -n '__z80dev_at dis' -l entry -x -d 'Address at which code begins'
+complete -c z80dev -n '__z80dev_at dis' -l data -x -d 'Address at which data begins'
 complete -c z80dev -n '__z80dev_at dis 0' -a '(__z80dev_files com)' -d Program
 
 complete -c z80dev -n '__z80dev_at dir' -s h -l help -d 'Print help'

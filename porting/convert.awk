@@ -1655,7 +1655,11 @@ function place(label, public,    k) {
     if (from == "sjasmplus" && label ~ /^[0-9]+$/) { counter[label + 0]++; counted[label + 0] = 1; return }
     if (from == "sjasmplus" && label !~ /^\./ && !macros) above = label ~ /^@/ ? substr(label, 2) : label
     note_seen(label)
-    if (macros && is_parameter(label)) local_line["@" stack[is_parameter(label)] " " toupper(label)] = here
+    # A parameter of a macro, or a name that is LOCAL in it, is no label of the source: elsewhere the name may be a register.
+    if (macros && is_parameter(label)) {
+        local_line["@" stack[is_parameter(label)] " " toupper(label)] = here
+        if (!public) return
+    }
     if (walk_number == 1) {
         if (macros && label ~ /^\./ && (from == "z80asm" || from == "sjasmplus")) { local_of[stack[macros]] = local_of[stack[macros]] "," clean(label); return }
         k = from == "sjasmplus" && label ~ /^\./ ? above label : label

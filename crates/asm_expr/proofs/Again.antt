@@ -5,9 +5,9 @@ use Rattle.asm_expr.specs.declared.meaning.Equated.{Equated}
 use Rattle.asm_expr.specs.declared.part.Part.{Part}
 use Rattle.asm_parse.specs.Expression.{Expression, postfix}
 use Rattle.asm_parse.specs.Source.{Operand, Name, Number, Here}
-use Rattle.asm_value.specs.Items.{IsExpr}
+use Rattle.asm_parse.specs.Values.Items.{IsExpr}
 use Rattle.asm_expr.specs.Names.{Table, found}
-use Rattle.asm_value.specs.Postfix.{source, spread, tree}
+use Rattle.asm_parse.specs.Values.Postfix.{source, spread, tree}
 use Rattle.asm_expr.specs.Settling.{divisions_fault, first_of_two, item_known, items_known, known, known_item, reduced, settled, settled_as, standing, too_large, unknown_of, unless_fault}
 use Rattle.asm_expr.specs.Private.Folding.{Folds, fold_all, unless}
 use Rattle.asm_expr.specs.Private.Left.{IsLeft, IsLeftName, IsLeftOperand, IsReducedTree, operand_alone}
@@ -16,7 +16,7 @@ use Rattle.asm_expr.proofs.ByNames.{Anything, all_places, weigh}
 use Rattle.asm_expr.proofs.Folds.{fold-whole}
 use Rattle.asm_expr.proofs.Known.{known-postfix}
 use Rattle.asm_expr.proofs.OneTerm.{answered}
-use Rattle.asm_value.proofs.Postfix.{one_expression, tree-postfix}
+use Rattle.asm_parse.proofs.Postfix.{one_expression, tree-postfix}
 use Rattle.asm_expr.proofs.Steps.{not_large}
 
 -- the items of an object file's expression, as items that are being settled

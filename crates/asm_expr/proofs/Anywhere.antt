@@ -5,7 +5,7 @@ use Rattle.std.proofs.lemmas.List.Folds.{list_all-append}
 use Rattle.asm_expr.specs.Types.{Atom, Binary, ExprFault, Item, Meaning, Settled, Statement, Unary, Unknown, Worth}
 use Rattle.asm_expr.specs.declared.part.Part.{Part}
 use Rattle.asm_expr.specs.declared.single.Single.{Single}
-use Rattle.asm_value.specs.Arithmetic.{unary, binary}
+use Rattle.asm_parse.specs.Values.Arithmetic.{unary, binary}
 use Rattle.asm_parse.specs.Expression.{Expression, Leaf, Prefix, Infix, postfix}
 use Rattle.asm_parse.specs.Source.{Operand, Number, Name, Here}
 use Rattle.asm_expr.specs.Names.{Table, found}
@@ -14,7 +14,7 @@ use Rattle.asm_expr.specs.Equating.{equated}
 use Rattle.asm_expr.specs.Origins.{is_number_item, is_number_name}
 use Rattle.asm_expr.proofs.Alike.{AreAlike, equated_alike, settled_alike}
 use Rattle.asm_expr.proofs.Guards.{reduced_number}
-use Rattle.asm_value.proofs.Judgements.{and_parts}
+use Rattle.asm_parse.proofs.Judgements.{and_parts}
 use Rattle.asm_expr.proofs.Offsets.{no_place}
 use Rattle.asm_expr.proofs.Origins.{Places}
 

@@ -1,3 +1,3 @@
--- Lemmas of `asm_value`, passed on to the crates above.
-pub use Rattle.asm_value.proofs.Judgements.{and_parts}
-pub use Rattle.asm_value.proofs.Postfix.{one_expression, run-one, tree-postfix}
+-- Lemmas of `asm_parse`, passed on to the crates above.
+pub use Rattle.asm_parse.proofs.Judgements.{and_parts}
+pub use Rattle.asm_parse.proofs.Postfix.{one_expression, run-one, tree-postfix}

@@ -5,7 +5,7 @@ use Rattle.std.proofs.lemmas.List.Elements.{Contains-append_left, Contains-appen
 use Rattle.asm_expr.specs.Types.{Item, Binary}
 use Rattle.asm_expr.specs.declared.part.Part.{Part}
 use Rattle.asm_expr.specs.declared.single.Single.{Single}
-use Rattle.asm_value.specs.Arithmetic.{unary, binary}
+use Rattle.asm_parse.specs.Values.Arithmetic.{unary, binary}
 use Rattle.asm_parse.specs.Expression.{Expression, Leaf, Prefix, Infix, postfix}
 use Rattle.asm_parse.specs.Source.{Operand, Number, Name, Here}
 use Rattle.asm_expr.specs.Names.{Table, found}

@@ -3,12 +3,12 @@ use Rattle.std.proofs.Common.{◌≡◌, ℕ, true, [], ◌∷◌, ◌++◌, Opt
 use Rattle.std.specs.List.{list_all}
 use Rattle.std.proofs.lemmas.List.Folds.{list_all-append}
 use Rattle.asm_expr.specs.Types.{Item, Meaning, Worth}
-use Rattle.asm_value.specs.Arithmetic.{unary, binary}
+use Rattle.asm_parse.specs.Values.Arithmetic.{unary, binary}
 use Rattle.asm_parse.specs.Expression.{Expression, Leaf, Prefix, Infix, postfix}
 use Rattle.asm_parse.specs.Source.{Operand, Number, Name, Here}
 use Rattle.asm_expr.specs.Names.{Table, found}
 use Rattle.asm_expr.specs.Settling.{meant, replaced, difference, or_else, through, both, worth, is_constant_name, is_constant_item}
-use Rattle.asm_value.proofs.Judgements.{and_parts}
+use Rattle.asm_parse.proofs.Judgements.{and_parts}
 
 through_varies : (f : ℕ → ℕ) (w : Worth) → through f w ≡ Worth.Varies → w ≡ Worth.Varies
 through_varies f (Worth.Number n) e = cc

@@ -10,7 +10,7 @@ use Rattle.std.specs.Str.{bytes_eq}
 use Rattle.std.specs.declared.vec.Vec.{Vec}
 use Rattle.asm_parse.specs.declared.item.Item.{Item}
 use Rattle.asm_expr.specs.Types.{Atom, Meaning, Settled, Statement}
-use Rattle.asm_value.specs.declared.expr.TheConstants.{MOST_ITEMS}
+use Rattle.asm_parse.specs.declared.values.expr.TheConstants.{MOST_ITEMS}
 use Rattle.asm_expr.specs.declared.names.Entry.{Entry}
 use Rattle.asm_expr.specs.Names.{AreCounted, IsCounted, Table, empty, with_meaning}
 use Rattle.asm_expr.specs.Private.Entries.{AreKnown, IsLeftBy, Knows, meant, named, named_as, table_of}

@@ -3,13 +3,13 @@ use Rattle.std.proofs.Common.{◌≡◌, ℕ, List, true, false, if◌then◌els
 use Rattle.asm_expr.specs.Types.{Unary, Binary, Atom, Statement, Worth, Unknown}
 use Rattle.asm_expr.specs.declared.part.Part.{Part}
 use Rattle.asm_expr.specs.declared.single.Single.{Single}
-use Rattle.asm_value.specs.Arithmetic.{unary, binary}
+use Rattle.asm_parse.specs.Values.Arithmetic.{unary, binary}
 use Rattle.asm_parse.specs.Expression.{Expression, Leaf, Prefix, Infix}
-use Rattle.asm_value.specs.Items.{value}
+use Rattle.asm_parse.specs.Values.Items.{value}
 use Rattle.asm_expr.specs.Distances.{Step, some_distance}
 use Rattle.asm_expr.specs.Names.{Table}
 use Rattle.asm_expr.specs.Settling.{known, single, distance_of, difference, or_else, through, both, worth, leaf_or, reduced}
-use Rattle.asm_value.proofs.Places.{one_distance}
+use Rattle.asm_parse.proofs.Places.{one_distance}
 
 through_number : (f : ℕ → ℕ) (w : Worth) (n : ℕ) → through f w ≡ Worth.Number n → (m : ℕ) × (w ≡ Worth.Number m) × (f m ≡ n)
 through_number f (Worth.Number m) n e = (m, refl, cc)

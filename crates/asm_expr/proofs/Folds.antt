@@ -5,7 +5,7 @@ use Rattle.asm_expr.specs.declared.part.Part.{Part}
 use Rattle.asm_expr.specs.declared.single.Single.{Single}
 use Rattle.common.specs.Results.{◌>>=◌}
 use Rattle.asm_parse.specs.Operators.{divides}
-use Rattle.asm_value.specs.Arithmetic.{unary, binary}
+use Rattle.asm_parse.specs.Values.Arithmetic.{unary, binary}
 use Rattle.asm_parse.specs.Expression.{Expression, Leaf, Prefix, Infix, postfix}
 use Rattle.asm_parse.specs.Source.{Operand}
 use Rattle.asm_expr.specs.Names.{Table}

@@ -7,12 +7,12 @@ use Rattle.asm_expr.specs.Types.{Binary, Item, Atom, ExprFault, Unknown, Worth}
 use Rattle.asm_expr.specs.declared.part.Part.{Part}
 use Rattle.asm_parse.specs.Operators.{divides}
 use Rattle.asm_parse.specs.Expression.{Expression, Leaf, Prefix, Infix, postfix}
-use Rattle.asm_value.specs.Items.{is_division, is_divisor, is_guarded, is_guarded_behind}
+use Rattle.asm_parse.specs.Values.Items.{is_division, is_divisor, is_guarded, is_guarded_behind}
 use Rattle.asm_parse.specs.Source.{Operand}
 use Rattle.asm_expr.specs.Names.{Table}
 use Rattle.asm_expr.specs.Settling.{known_item, replaced, expression_size, worth, leaf_or, reduced, first_of_two, divisor_fault, division_fault, divisions_fault, too_large, fault_behind, fault}
 use Rattle.asm_expr.specs.Private.Folding.{root}
-use Rattle.asm_value.proofs.Judgements.{and_parts}
+use Rattle.asm_parse.proofs.Judgements.{and_parts}
 
 -- whether an item is a number other than 0, or a part without a value
 abbrev is_safe : Item Part → Bool

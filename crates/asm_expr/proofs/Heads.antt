@@ -7,9 +7,9 @@ use Rattle.std.proofs.lemmas.Bool.{eqb-true, false≢true}
 use Rattle.asm_expr.specs.Types.{Binary, Item, Term}
 use Rattle.asm_parse.specs.Expression.{Expression, Leaf, Prefix, Infix, postfix, and_then}
 use Rattle.asm_parse.specs.Source.{Operand, Here, operand, source_item}
-use Rattle.asm_value.specs.Postfix.{put, run}
+use Rattle.asm_parse.specs.Values.Postfix.{put, run}
 use Rattle.asm_expr.specs.Private.Heads.{is_sum, sign_of, IsFromHere, IsNotFromHere}
-use Rattle.asm_value.proofs.Postfix.{run-whole, run-one}
+use Rattle.asm_parse.proofs.Postfix.{run-whole, run-one}
 
 sourced : Expression Term → Expression Operand
 sourced (Leaf term) = Leaf (operand term)

@@ -3,8 +3,8 @@ use Rattle.std.proofs.Common.{◌≡◌, ◌<◌, ◌+◌, ◌++◌, ◌∷◌, 
 use Rattle.std.proofs.lemmas.List.{append_assoc, at_drop_more}
 use Rattle.std.proofs.lemmas.Grind.{flat_map-append}
 use Rattle.std.specs.List.{flat_map}
-use Rattle.asm_value.specs.declared.kept.Piece.{Piece}
-use Rattle.asm_value.specs.Kept.{items_in}
+use Rattle.asm_parse.specs.declared.values.kept.Piece.{Piece}
+use Rattle.asm_parse.specs.Values.Kept.{items_in}
 use Rattle.std.specs.Option.{option_map}
 use Rattle.asm_expr.specs.Types.{Item, Atom}
 use Rattle.asm_expr.specs.declared.part.Part.{Part}

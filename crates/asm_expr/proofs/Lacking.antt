@@ -7,7 +7,7 @@ use Rattle.std.proofs.lemmas.List.Folds.{list_all-append}
 use Rattle.asm_expr.specs.Types.{Item, Atom, Binary, ExprFault, Meaning, Settled, Unknown, Worth}
 use Rattle.asm_expr.specs.declared.part.Part.{Part}
 use Rattle.asm_expr.specs.declared.single.Single.{Single}
-use Rattle.asm_value.specs.Arithmetic.{unary, binary}
+use Rattle.asm_parse.specs.Values.Arithmetic.{unary, binary}
 use Rattle.asm_parse.specs.Expression.{Expression, Leaf, Prefix, Infix, postfix, and_then}
 use Rattle.asm_parse.specs.Source.{Operand, Number, Name, Here}
 use Rattle.asm_expr.specs.Names.{Table, found}

@@ -6,7 +6,7 @@ use Rattle.asm_expr.specs.Types.{Binary, Item, Atom, ExprFault, Settled, Unknown
 use Rattle.asm_expr.specs.declared.part.Part.{Part}
 use Rattle.asm_expr.specs.declared.single.Single.{Single}
 use Rattle.asm_expr.specs.declared.here.Offset.{Offset}
-use Rattle.asm_value.specs.Arithmetic.{binary}
+use Rattle.asm_parse.specs.Values.Arithmetic.{binary}
 use Rattle.asm_parse.specs.Expression.{Expression, Leaf, Prefix, Infix, postfix}
 use Rattle.asm_parse.specs.Source.{Operand, Number, Name, Here}
 use Rattle.asm_expr.specs.Names.{Table}
@@ -15,7 +15,7 @@ use Rattle.asm_expr.specs.Private.Answers.{IsSettled, is_unknown}
 use Rattle.asm_expr.proofs.Constants.{steady}
 use Rattle.asm_expr.specs.Offsets.{offset_after_here, constant_behind, offset, IsOffset}
 use Rattle.asm_expr.specs.Private.Heads.{is_sum, IsFromHere, IsNotFromHere, numbered}
-use Rattle.asm_value.proofs.Postfix.{one_expression}
+use Rattle.asm_parse.proofs.Postfix.{one_expression}
 use Rattle.asm_expr.proofs.Guards.{reduced_number, reduced_unknown}
 use Rattle.asm_expr.proofs.Fixed.{infix_known, leaf_unknown}
 use Rattle.asm_expr.proofs.Known.{object_tree}

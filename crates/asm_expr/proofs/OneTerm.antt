@@ -5,11 +5,11 @@ use Rattle.asm_parse.specs.declared.item.Item.{Item}
 use Rattle.asm_parse.specs.Expression.{postfix}
 use Rattle.asm_parse.specs.Source.{Operand, Number, Name, Here}
 use Rattle.asm_expr.specs.declared.answer.Settled.{Settled}
-use Rattle.asm_value.specs.declared.atom.Atom.{Atom}
+use Rattle.asm_parse.specs.declared.values.atom.Atom.{Atom}
 use Rattle.asm_expr.specs.declared.meaning.Meaning.{Meaning}
 use Rattle.asm_expr.specs.Alone.{atom_alone, atom_meant, atom_of, atom_number}
 use Rattle.asm_expr.specs.Names.{Table, found}
-use Rattle.asm_value.specs.Postfix.{source}
+use Rattle.asm_parse.specs.Values.Postfix.{source}
 use Rattle.asm_expr.specs.Settling.{divisions_fault, first_of_two, items_known, meant, reduced, settled, settled_as, size_meant, too_large, unknown_of, unless_fault}
 
 -- what is answered for a name that stands for this

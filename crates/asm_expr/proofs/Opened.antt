@@ -11,7 +11,7 @@ use Rattle.asm_expr.specs.Types.{Item, Atom}
 use Rattle.asm_expr.specs.declared.part.Part.{Part}
 use Rattle.asm_expr.specs.declared.parts.Cell.{Cell}
 use Rattle.asm_parse.specs.Expression.{Expression, Leaf, Prefix, Infix, postfix}
-use Rattle.asm_value.specs.Items.{IsExpr}
+use Rattle.asm_parse.specs.Values.Items.{IsExpr}
 use Rattle.asm_expr.specs.Settling.{known, known_item}
 use Rattle.asm_expr.specs.Private.Cells.{EndsInLeaf, IsOperation, IsSound, is_leaf, opened}
 use Rattle.asm_expr.specs.Private.Folding.{root}

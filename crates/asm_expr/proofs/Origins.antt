@@ -7,8 +7,8 @@ use Rattle.asm_expr.specs.Types.{Atom, Item, Meaning, Settled, Unknown, Worth}
 use Rattle.asm_expr.specs.declared.part.Part.{Part}
 use Rattle.asm_parse.specs.Expression.{Expression, Leaf, Prefix, Infix, postfix}
 use Rattle.asm_parse.specs.Source.{Operand, Number, Name, Here}
-use Rattle.asm_value.specs.Postfix.{run, only, tree}
-use Rattle.asm_value.specs.Items.{refs, refs_in}
+use Rattle.asm_parse.specs.Values.Postfix.{run, only, tree}
+use Rattle.asm_parse.specs.Values.Items.{refs, refs_in}
 use Rattle.asm_expr.specs.Names.{Table, found}
 use Rattle.asm_expr.specs.Settling.{known, leaf_or, meant, reduced, replaced, settled, expression_size, standing, is_constant_item, worth}
 use Rattle.asm_expr.specs.Equating.{constant_of, equated, meaning_of}

@@ -4,7 +4,7 @@ use Rattle.std.proofs.lemmas.List.Sums.{sum_by-append}
 use Rattle.asm_expr.specs.Types.{Item}
 use Rattle.asm_parse.specs.Expression.{Expression, Leaf, Prefix, Infix, postfix}
 use Rattle.asm_parse.specs.Source.{Operand, AreExpressionItems, source_item}
-use Rattle.asm_value.specs.Postfix.{source}
+use Rattle.asm_parse.specs.Values.Postfix.{source}
 use Rattle.asm_parse.specs.declared.item.Term.{Term}
 use Rattle.asm_expr.proofs.Steps.{source_whole}
 use Rattle.asm_expr.specs.Names.{Table}

@@ -5,9 +5,9 @@ use Rattle.std.proofs.lemmas.List.{get_or-take, get_or_default, length-take-le}
 use Rattle.asm_expr.specs.Types.{Unary, Binary, Item, ExprFault, Unknown, Worth}
 use Rattle.asm_expr.specs.declared.part.Part.{Part}
 use Rattle.asm_expr.specs.declared.single.Single.{Single}
-use Rattle.asm_value.specs.Arithmetic.{binary}
+use Rattle.asm_parse.specs.Values.Arithmetic.{binary}
 use Rattle.asm_parse.specs.Expression.{Expression, Leaf, Prefix, Infix, postfix}
-use Rattle.asm_value.specs.Postfix.{spread}
+use Rattle.asm_parse.specs.Values.Postfix.{spread}
 use Rattle.asm_expr.specs.Names.{Table}
 use Rattle.asm_expr.specs.Settling.{distance_of, or_else, both, leaf_or}
 use Rattle.asm_expr.specs.Private.Cells.{EndsInLeaf, is_leaf}

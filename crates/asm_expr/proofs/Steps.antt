@@ -5,24 +5,23 @@ use Rattle.std.proofs.lemmas.Bool.{lt-ltb, le-ltb}
 use Rattle.asm_expr.specs.Types.{Item, Atom, ExprFault, Settled, Worth}
 use Rattle.asm_expr.specs.declared.part.Part.{Part}
 use Rattle.asm_parse.specs.Expression.{Expression, Leaf, Prefix, Infix, postfix}
-use Rattle.asm_value.specs.Postfix.{spread, put, run, only, tree}
+use Rattle.asm_parse.specs.Values.Postfix.{spread, put, run, only, tree, source}
 use Rattle.asm_expr.specs.Names.{AreCounted, IsCounted, Table, found, item_count}
 use Rattle.common.specs.Results.{◌>>=◌}
 use Rattle.asm_expr.specs.declared.meaning.Meaning.{Meaning}
 use Rattle.asm_parse.specs.declared.item.Term.{Term}
 use Rattle.std.proofs.Math.ListN.{get_or-map}
-use Rattle.asm_value.specs.Items.{value}
+use Rattle.asm_parse.specs.Values.Items.{value}
 use Rattle.asm_parse.specs.Source.{Operand, Number, Name, Here, AreExpressionItems, source_item}
-use Rattle.asm_value.specs.Postfix.{source}
 use Rattle.asm_expr.specs.Settling.{stands_for, standing, meant, size_meant, expression_size, known, known_item, replaced, reduced, worth, divisions_fault, too_large, fault, IsWorth}
 use Rattle.asm_expr.specs.Private.Folding.{root, worth_of, item_fault, unless, fold_one, fold_all, joined, prefixed, Folds, IsReduced, items_for, item_size, settling}
-use Rattle.asm_value.specs.Private.Steps.{arity}
+use Rattle.asm_parse.specs.Private.Steps.{arity}
 use Rattle.asm_expr.proofs.Folds.{fold-whole, settling-whole, worth-reduced}
 use Rattle.asm_expr.proofs.Guards.{positive, reduced_shorter, reduced_number, reduced_unknown, small, sound, guarded_postfix, guarded_reduced}
 use Rattle.asm_expr.proofs.Fixed.{leaf_unknown, same}
 use Rattle.asm_expr.proofs.Constants.{steady}
 use Rattle.asm_expr.proofs.Known.{object_tree, known-postfix}
-use Rattle.asm_value.proofs.Postfix.{next, run-one, run-whole, tree-postfix, one_expression}
+use Rattle.asm_parse.proofs.Postfix.{next, run-one, run-whole, tree-postfix, one_expression}
 
 -- The first `read` items are folded, after the expressions that were there before; `now` are the expressions that are there.
 pub record Folded (t : Table) (items : List (Item Part)) (before : List (Expression Part)) (read : ℕ) (out : List (Item Part)) : Type 0 where

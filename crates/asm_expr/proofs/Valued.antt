@@ -6,17 +6,17 @@ use Rattle.std.specs.Option.{option_map}
 use Rattle.asm_expr.specs.Types.{Atom, Binary, ExprFault, Item, Meaning, Settled, Statement, Unknown, Worth}
 use Rattle.asm_expr.specs.declared.part.Part.{Part}
 use Rattle.asm_expr.specs.declared.single.Single.{Single}
-use Rattle.asm_value.specs.Arithmetic.{modulus, unary, binary}
+use Rattle.asm_parse.specs.Values.Arithmetic.{modulus, unary, binary}
 use Rattle.asm_parse.specs.Expression.{Expression, Leaf, Prefix, Infix, postfix, and_then}
 use Rattle.asm_parse.specs.Source.{Operand, Number, Name, Here}
 use Rattle.asm_expr.specs.Names.{Table, found}
-use Rattle.asm_value.specs.Postfix.{tree}
+use Rattle.asm_parse.specs.Values.Postfix.{tree}
 use Rattle.asm_expr.specs.Distances.{backwards, statements_between, bytes_taken, statement_bytes, distance, is_relaxable, is_unsized}
 use Rattle.asm_expr.specs.Origins.{is_value, is_valued_item, is_valued_name}
 use Rattle.asm_expr.specs.Settling.{both, difference, distance_of, fault, item_known, items_known, known, leaf_or, meant, or_else, reduced, replaced, settled, settled_as, single, standing, through, unknown_of, unless_fault, worth}
 use Rattle.asm_expr.proofs.Anywhere.{of_infix, of_prefix}
-use Rattle.asm_value.proofs.Judgements.{and_parts}
-use Rattle.asm_value.proofs.Places.{neither}
+use Rattle.asm_parse.proofs.Judgements.{and_parts}
+use Rattle.asm_parse.proofs.Places.{neither}
 
 -- each part of the expression has a value
 abbrev Has : Expression Part → Type 0

@@ -9,9 +9,9 @@ use Rattle.asm_parse.specs.Source.{Operand}
 use Rattle.asm_expr.specs.declared.answer.Settled.{Settled}
 use Rattle.asm_expr.specs.declared.meaning.Meaning.{Meaning}
 use Rattle.asm_expr.specs.declared.unknown.Unknown.{Unknown}
-use Rattle.asm_value.specs.Items.{value}
+use Rattle.asm_parse.specs.Values.Items.{value}
 use Rattle.asm_expr.specs.Names.{Table}
-use Rattle.asm_value.specs.Postfix.{tree}
+use Rattle.asm_parse.specs.Values.Postfix.{tree}
 use Rattle.asm_expr.specs.Settling.{is_constant_item, settled, expression_size}
 
 -- What a constant expression stands for: its value, which is the same at any addresses. Without a value, it may be anything, or an

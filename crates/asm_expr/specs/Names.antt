@@ -5,7 +5,7 @@ use Rattle.std.specs.Map.{lookup}
 use Rattle.std.specs.Str.{bytes_eq}
 use Rattle.asm_expr.specs.declared.answer.Settled.{Settled}
 use Rattle.asm_expr.specs.declared.meaning.Meaning.{Meaning}
-use Rattle.asm_value.specs.declared.statement.Statement.{Statement}
+use Rattle.asm_parse.specs.declared.values.statement.Statement.{Statement}
 
 -- Each name and what it stands for; the statement whose address is `$`; and the statements so far, in order.
 pub record Table : Type 0 where

@@ -6,9 +6,9 @@ use Rattle.asm_parse.specs.declared.fault.ExprFault.{ExprFault}
 use Rattle.asm_parse.specs.declared.operator.Binary.{Binary}
 use Rattle.asm_parse.specs.Expression.{Expression, Leaf, Infix, postfix}
 use Rattle.asm_parse.specs.Source.{Operand, Here}
-use Rattle.asm_value.specs.declared.worth.Worth.{Worth}
+use Rattle.asm_parse.specs.declared.values.worth.Worth.{Worth}
 use Rattle.asm_expr.specs.declared.here.Offset.{Offset}
-use Rattle.asm_value.specs.Arithmetic.{binary}
+use Rattle.asm_parse.specs.Values.Arithmetic.{binary}
 use Rattle.asm_expr.specs.Names.{Table}
 use Rattle.asm_expr.specs.Settling.{replaced, worth, fault, is_constant_item}
 

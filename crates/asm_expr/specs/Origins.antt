@@ -5,7 +5,7 @@ use Rattle.asm_parse.specs.declared.item.Item.{Item}
 use Rattle.asm_parse.specs.Source.{Operand, Name, Here}
 use Rattle.asm_expr.specs.declared.answer.Settled.{Settled}
 use Rattle.asm_expr.specs.declared.meaning.Meaning.{Meaning}
-use Rattle.asm_value.specs.Items.{refs}
+use Rattle.asm_parse.specs.Values.Items.{refs}
 use Rattle.asm_expr.specs.Names.{Table, found}
 
 -- Each ref in a settled expression has the property.

@@ -7,20 +7,20 @@ use Rattle.asm_parse.specs.declared.fault.ExprFault.{ExprFault}
 use Rattle.asm_parse.specs.declared.operator.Unary.{Unary}
 use Rattle.asm_parse.specs.declared.operator.Binary.{Binary}
 use Rattle.asm_parse.specs.declared.item.Item.{Item}
-use Rattle.asm_value.specs.declared.atom.Atom.{Atom}
+use Rattle.asm_parse.specs.declared.values.atom.Atom.{Atom}
 use Rattle.asm_expr.specs.declared.answer.Settled.{Settled}
 use Rattle.asm_expr.specs.declared.part.Part.{Part}
 use Rattle.asm_expr.specs.declared.single.Single.{Single}
 use Rattle.asm_expr.specs.declared.unknown.Unknown.{Unknown}
 use Rattle.asm_expr.specs.declared.meaning.Meaning.{Meaning}
-use Rattle.asm_value.specs.declared.worth.Worth.{Worth}
-use Rattle.asm_value.specs.declared.expr.TheConstants.{MOST_ITEMS}
+use Rattle.asm_parse.specs.declared.values.worth.Worth.{Worth}
+use Rattle.asm_parse.specs.declared.values.expr.TheConstants.{MOST_ITEMS}
 use Rattle.asm_parse.specs.Operators.{divides}
-use Rattle.asm_value.specs.Arithmetic.{unary, binary}
+use Rattle.asm_parse.specs.Values.Arithmetic.{unary, binary}
 use Rattle.asm_parse.specs.Expression.{Expression, Leaf, Prefix, Infix, postfix, and_then}
-use Rattle.asm_value.specs.Postfix.{tree}
+use Rattle.asm_parse.specs.Values.Postfix.{tree}
 use Rattle.asm_parse.specs.Source.{Operand, Number, Name, Here}
-use Rattle.asm_value.specs.Items.{IsExpr, value}
+use Rattle.asm_parse.specs.Values.Items.{IsExpr, value}
 use Rattle.asm_expr.specs.Distances.{distance, some_distance, Step}
 use Rattle.asm_expr.specs.Names.{Table, found}
 

@@ -4,17 +4,16 @@ ghost use Rattle.std.specs.Prelude.{◌≡◌, ◌∷◌, [], ℕ, IfSome, Ok, S
 ghost use Rattle.std.specs.Option.{option_map};
 ghost use Rattle.asm_parse.specs.declared.item.Item.{Item};
 ghost use Rattle.asm_parse.specs.Source.{operand};
-ghost use Rattle.asm_value.specs.declared.atom.Atom.{Atom};
+ghost use Rattle.asm_parse.specs.declared.values.atom.Atom.{Atom};
 ghost use Rattle.asm_expr.specs.declared.answer.Settled.{Settled};
 ghost use Rattle.asm_expr.specs.Alone.{atom_alone, atom_of, number_alone};
-ghost use Rattle.asm_value.specs.Postfix.{source};
+ghost use Rattle.asm_parse.specs.Values.Postfix.{source};
 ghost use Rattle.asm_expr.specs.Settling.{settled};
 ghost use Rattle.asm_expr.specs.Private.Left.{IsLeftOperand, operand_alone};
 
 use crate::meaning::Meaning;
 use crate::names::Names;
-use asm_parse::{Item, Term, TermView, Tree};
-use asm_value::{Atom, Expr};
+use asm_parse::{Atom, Expr, Item, Term, TermView, Tree};
 
 /// The number or ref that a term stands for; None if it has no value, or if it stands for an expression with an operator.
 fn atom_of(term: &Term, names: &Names) -> Option<Atom>

@@ -4,7 +4,7 @@ ghost use Rattle.std.specs.Prelude.{◌≡◌, ◌⊎◌, ◌≤◌, length, Som
 ghost use Rattle.std.specs.List.{AllPass};
 ghost use Rattle.asm_parse.specs.declared.fault.ExprFault.{ExprFault};
 ghost use Rattle.asm_expr.specs.declared.answer.Settled.{Settled};
-ghost use Rattle.asm_value.specs.Postfix.{source};
+ghost use Rattle.asm_parse.specs.Values.Postfix.{source};
 ghost use Rattle.asm_expr.specs.Settling.{IsWorthOf, is_known, settled};
 ghost use Rattle.asm_expr.specs.Private.Folding.{unknown_at_end, unknown_by};
 
@@ -15,8 +15,7 @@ use crate::parts::Parts;
 use crate::reduction::reduce;
 use crate::sharing::kept_of;
 use crate::unknown::Unknown;
-use asm_parse::{ExprFault, Item, Tree, Unary};
-use asm_value::Expr;
+use asm_parse::{Expr, ExprFault, Item, Tree, Unary};
 use std::alloc::{AllocError, Global};
 
 /// An expression that is settled.

@@ -3,7 +3,7 @@
 ghost use Rattle.std.specs.Prelude.{◌≡◌, ◌⊎◌, Err, IfOk};
 ghost use Rattle.std.specs.List.{AllPass};
 ghost use Rattle.asm_expr.specs.Types.{ExprFault};
-ghost use Rattle.asm_value.specs.Postfix.{source};
+ghost use Rattle.asm_parse.specs.Values.Postfix.{source};
 ghost use Rattle.asm_expr.specs.Names.{IsCounted};
 ghost use Rattle.asm_expr.specs.Settling.{is_known};
 ghost use Rattle.asm_expr.specs.Equating.{equated};
@@ -13,8 +13,7 @@ use crate::meaning::{Equated, Meaning};
 use crate::names::Names;
 use crate::unknown::Unknown;
 use crate::weigh::{is_constant, size};
-use asm_parse::{ExprFault, Tree};
-use asm_value::constant;
+use asm_parse::{ExprFault, Tree, constant};
 use std::alloc::Global;
 
 /// Finds what a name stands for that EQU defines by this expression.

@@ -5,7 +5,7 @@ ghost use Rattle.std.specs.List.{AllPass};
 ghost use Rattle.std.specs.Option.{option_eq, option_map};
 ghost use Rattle.asm_parse.specs.declared.item.Item.{Item};
 ghost use Rattle.asm_parse.specs.Source.{Here, source_item};
-ghost use Rattle.asm_value.specs.Postfix.{run, source};
+ghost use Rattle.asm_parse.specs.Values.Postfix.{run, source};
 ghost use Rattle.asm_expr.specs.Settling.{is_known};
 ghost use Rattle.asm_expr.specs.Offsets.{IsOffset};
 ghost use Rattle.asm_expr.specs.Private.Heads.{IsFromHere, IsNotFromHere, numbered, sign_of};
@@ -13,8 +13,9 @@ ghost use Rattle.asm_expr.specs.Private.Heads.{IsFromHere, IsNotFromHere, number
 use crate::answer::{Settled, settle};
 use crate::names::Names;
 use crate::weigh::all_constant;
-use asm_parse::{Binary, ExprFault, Item, Term, Tree};
-use asm_value::{Atom, Room, apply_binary, items, values_left};
+use asm_parse::{
+    Atom, Binary, ExprFault, Item, Room, Term, Tree, apply_binary, items, values_left,
+};
 use std::alloc::Global;
 
 /// What the operand of a JR or DJNZ says.

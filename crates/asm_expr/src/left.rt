@@ -10,8 +10,7 @@ use crate::names::Names;
 use crate::parts::{Cell, Parts};
 use crate::reduction::take_expr;
 use crate::sharing::item_known;
-use asm_parse::Item;
-use asm_value::{Atom, Expr};
+use asm_parse::{Atom, Expr, Item};
 
 /// Whether a settled part is exactly this one item. It may answer false even if it is.
 fn is_item(cell: &Cell<'_>, item: &Item<Atom>) -> bool

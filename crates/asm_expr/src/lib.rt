@@ -19,9 +19,9 @@ mod weigh;
 
 pub use alone::number_alone;
 pub use answer::{Settled, settle};
-pub use asm_parse::{Binary, ExprFault, Item, Term, TermView, Tree, Unary, is_reserved, parse};
-pub use asm_value::{
-    Atom, Expr, MOST_ITEMS, Room, Statement, Worth, constant, has_places, items, value,
+pub use asm_parse::{
+    Atom, Binary, Expr, ExprFault, Item, MOST_ITEMS, Room, Statement, Term, TermView, Tree, Unary,
+    Worth, constant, has_places, is_reserved, items, parse, value,
 };
 pub use equating::equate;
 pub use here::{Offset, offset_from_here};

@@ -10,7 +10,7 @@ ghost use Rattle.asm_expr.specs.Private.Left.{IsLeftName};
 use crate::answer::Settled;
 use crate::left::is_left;
 use crate::meaning::Meaning;
-use asm_value::{Expr, Layout, MOST_ITEMS, Statement, Worth};
+use asm_parse::{Expr, Layout, MOST_ITEMS, Statement, Worth};
 use common::NameKey;
 use indexmap::IndexMap;
 use std::alloc::{AllocError, Global};

@@ -7,8 +7,7 @@ ghost use Rattle.asm_expr.specs.Settling.{known_item};
 ghost use Rattle.asm_expr.specs.Private.Cells.{EndsInLeaf, IsOperation, IsSound, opened};
 
 use crate::part::Part;
-use asm_parse::Item;
-use asm_value::{Atom, MOST_ITEMS};
+use asm_parse::{Atom, Item, MOST_ITEMS};
 use std::marker::Model;
 use std::rc::Rc;
 
@@ -32,7 +31,7 @@ impl<'a> Model for Parts<'a> {
     ghost use Rattle.std.specs.List.{flat_map};
     ghost use Rattle.asm_parse.specs.declared.item.Item.{Item};
     ghost use Rattle.asm_expr.specs.declared.part.Part.{Part};
-    ghost use Rattle.asm_value.specs.declared.expr.TheConstants.{MOST_ITEMS};
+    ghost use Rattle.asm_parse.specs.declared.values.expr.TheConstants.{MOST_ITEMS};
     ghost use Rattle.asm_expr.specs.Private.Cells.{IsSound, opened};
 
     ghost Value = { List (Item Part) };

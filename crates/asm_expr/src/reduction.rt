@@ -5,13 +5,13 @@ ghost use Rattle.std.specs.List.{AllPass};
 ghost use Rattle.asm_expr.specs.declared.part.Part.{Part};
 ghost use Rattle.asm_parse.specs.declared.item.Item.{Item};
 ghost use Rattle.asm_parse.specs.Expression.{Expression, Leaf, postfix};
-ghost use Rattle.asm_value.specs.Postfix.{source, spread, tree};
+ghost use Rattle.asm_parse.specs.Values.Postfix.{source, spread, tree};
 ghost use Rattle.asm_parse.specs.Source.{operand, source_item};
 ghost use Rattle.asm_expr.specs.Names.{AreCounted, found, item_count};
-ghost use Rattle.asm_value.specs.Arithmetic.{binary};
-ghost use Rattle.asm_value.specs.Items.{IsExpr};
+ghost use Rattle.asm_parse.specs.Values.Arithmetic.{binary};
+ghost use Rattle.asm_parse.specs.Values.Items.{IsExpr};
 ghost use Rattle.asm_expr.specs.Settling.{both, distance_of, is_known, known_item, operand_size, standing};
-ghost use Rattle.asm_value.specs.Private.Steps.{arity};
+ghost use Rattle.asm_parse.specs.Private.Steps.{arity};
 ghost use Rattle.asm_expr.specs.Private.Left.{IsLeftName};
 ghost use Rattle.asm_expr.specs.Private.Folding.{Folds, IsReduced, difference_of, fold_all, fold_one, folded_binary, folded_unary, item_fault, item_size, items_for, leaf_of, prefixed, single_of, worth_of};
 
@@ -23,8 +23,10 @@ use crate::parts::{Parts, known_item};
 use crate::single::Single;
 use crate::unknown::Unknown;
 use crate::weigh::item_size;
-use asm_parse::{Binary, ExprFault, Item, Term, TermView, Tree, Unary};
-use asm_value::{Atom, Expr, MOST_ITEMS, Room, Worth, apply_binary, apply_unary, items};
+use asm_parse::{
+    Atom, Binary, Expr, ExprFault, Item, MOST_ITEMS, Room, Term, TermView, Tree, Unary, Worth,
+    apply_binary, apply_unary, items,
+};
 use std::rc::Rc;
 
 fn worth_of(item: &Item<Part>) -> Worth

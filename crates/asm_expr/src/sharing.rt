@@ -3,14 +3,13 @@
 ghost use Rattle.std.specs.Prelude.{◌≡◌, ◌++◌, IfOk, Some, None, if◌then◌else◌};
 ghost use Rattle.std.specs.List.{flat_map};
 ghost use Rattle.std.specs.Option.{option_map};
-ghost use Rattle.asm_value.specs.Kept.{items_in, kept};
+ghost use Rattle.asm_parse.specs.Values.Kept.{items_in, kept};
 ghost use Rattle.asm_expr.specs.Settling.{item_known, items_known};
 ghost use Rattle.asm_expr.specs.Private.Cells.{opened};
 
 use crate::part::Part;
 use crate::parts::Cell;
-use asm_parse::Item;
-use asm_value::{Atom, Kept, Piece};
+use asm_parse::{Atom, Item, Kept, Piece};
 use std::alloc::{AllocError, Global};
 use std::rc::Rc;
 

@@ -4,8 +4,8 @@ ghost use Rattle.std.specs.Prelude.{◌≡◌, ◌≤◌, ◌↔◌, IsTrue};
 ghost use Rattle.std.specs.List.{AllPass, list_all};
 ghost use Rattle.asm_parse.specs.Source.{source_item};
 ghost use Rattle.asm_parse.specs.Expression.{postfix};
-ghost use Rattle.asm_value.specs.declared.expr.TheConstants.{MOST_ITEMS};
-ghost use Rattle.asm_value.specs.Postfix.{source};
+ghost use Rattle.asm_parse.specs.declared.values.expr.TheConstants.{MOST_ITEMS};
+ghost use Rattle.asm_parse.specs.Values.Postfix.{source};
 ghost use Rattle.asm_expr.specs.Settling.{is_constant_item, is_known, expression_size};
 ghost use Rattle.asm_expr.specs.Private.Folding.{item_size};
 

@@ -3,10 +3,10 @@ use Rattle.std.specs.Prelude.{◌≡◌, ◌<◌, ◌+◌, ℕ, List, [], ◌∷
 use Rattle.std.specs.Option.{option_map}
 use Rattle.std.proofs.Common.{get_or, append_assoc, sym, ◌∙◌, ap, arith}
 use Rattle.std.proofs.lemmas.List.{at_drop_more}
-use Rattle.asm_scan.specs.declared.token.Token.{Token}
-use Rattle.asm_scan.specs.Tokens.{Lexeme, lexeme, lexemes}
+use Rattle.asm_line.specs.declared.token.Token.{Token}
+use Rattle.asm_line.specs.Tokens.{Lexeme, lexeme, lexemes}
 use Rattle.common.specs.Words.{upper}
-use Rattle.asm_line.specs.Tokens.{is_name, is_comma}
+use Rattle.asm_line.specs.Single.{is_name, is_comma}
 use Rattle.asm_line.specs.Lists.{name_list}
 
 -- no list of names begins with something else

@@ -1,7 +1,7 @@
 -- The tokens after the head of a line are its last tokens.
 use Rattle.std.proofs.Common.{◌≡◌, ap, refl, ℕ, Bool, true, false, List, [], ◌∷◌, ◌++◌, Option, Some, None, ◌&&◌, if◌then◌else◌, codes}
-use Rattle.asm_scan.specs.Tokens.{Lexeme}
-use Rattle.asm_line.specs.Tokens.{is_name, is_colon, is_word}
+use Rattle.asm_line.specs.Tokens.{Lexeme}
+use Rattle.asm_line.specs.Single.{is_name, is_colon, is_word}
 use Rattle.asm_line.specs.Forms.{Form, Macro, Nothing, block_named, defined, form, head_of_block, worded, headed, labelled}
 
 abbrev pub IsLast : List Lexeme → Form → Type 0

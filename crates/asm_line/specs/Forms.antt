@@ -2,9 +2,9 @@
 -- In words: docs/LANGUAGE.md, section 'Lines'.
 use Rattle.std.specs.Prelude.{ℕ, List, [], ◌∷◌, Option, Some, None, ◌&&◌, if◌then◌else◌, codes}
 use Rattle.std.specs.Str.{str_eq_ignore_ascii_case}
-use Rattle.asm_scan.specs.Tokens.{Lexeme}
+use Rattle.asm_line.specs.Tokens.{Lexeme}
 use Rattle.asm_line.specs.declared.forms.BlockWord.{BlockWord}
-use Rattle.asm_line.specs.Tokens.{is_name, is_colon, is_word}
+use Rattle.asm_line.specs.Single.{is_name, is_colon, is_word}
 
 -- The head of a line: a definition, with the name that it defines; a block word; any other word; or no word. Names are as written.
 pub data Head : Type 0 where

@@ -1,5 +1,13 @@
+pub mod Types
+pub mod Classes
+pub mod Numbers
 pub mod Tokens
+pub mod Lines
+pub mod Scanned
+pub mod Single
 pub mod Forms
 pub mod Lists
 pub mod Commas
-pub mod Views
+pub mod FormViews
+pub mod Replacing
+pub mod Private

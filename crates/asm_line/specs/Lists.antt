@@ -2,9 +2,9 @@
 -- In words: docs/LANGUAGE.md, section 'Modules'.
 use Rattle.std.specs.Prelude.{ℕ, List, [], ◌∷◌, Option, Some, None, ◌&&◌, if◌then◌else◌}
 use Rattle.std.specs.Option.{option_map}
-use Rattle.asm_scan.specs.Tokens.{Lexeme}
+use Rattle.asm_line.specs.Tokens.{Lexeme}
 use Rattle.common.specs.Words.{upper}
-use Rattle.asm_line.specs.Tokens.{is_name, is_comma}
+use Rattle.asm_line.specs.Single.{is_name, is_comma}
 
 -- the names in upper case, at least one; None if the tokens are no such list
 abbrev pub name_list : List Lexeme → Option (List (List ℕ))

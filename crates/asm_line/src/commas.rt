@@ -3,7 +3,7 @@
 ghost use Rattle.std.specs.Prelude.{◌≡◌, ◌<◌};
 ghost use Rattle.asm_line.specs.Commas.{open_behind};
 
-use asm_scan::{Kind, Mark, Token};
+use crate::{Kind, Mark, Token};
 
 /// How many parentheses are open after a token, if `depth` are open before it. A `)` that closes none does not count.
 pub fn open_behind(depth: usize, token: &Token<'_>) -> usize

@@ -2,13 +2,13 @@
 
 ghost use Rattle.std.specs.Prelude.{◌≡◌, ◌∷◌, ◌&&◌, codes};
 ghost use Rattle.std.specs.Option.{option_map};
-ghost use Rattle.asm_scan.specs.Tokens.{lexeme, lexemes};
+ghost use Rattle.asm_line.specs.Tokens.{lexeme, lexemes};
 ghost use Rattle.asm_line.specs.Forms.{block_named, defined, form, headed, labelled, worded};
-ghost use Rattle.asm_line.specs.Tokens.{is_colon, is_name, is_word};
-ghost use Rattle.asm_line.specs.Views.{form_seen};
+ghost use Rattle.asm_line.specs.Single.{is_colon, is_name, is_word};
+ghost use Rattle.asm_line.specs.FormViews.{form_seen};
 
+use crate::Token;
 use crate::single::{is_colon, is_name, is_word};
-use asm_scan::Token;
 
 /// A word that opens, divides or closes a block, or LOCAL, which lists the names that are local to a macro.
 #[derive(Clone, Copy, Debug, PartialEq, Eq)]

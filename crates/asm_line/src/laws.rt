@@ -1,10 +1,9 @@
-//! A law about how a line begins, as a function that does nothing. A caller calls it to use its clause.
+//! Laws about lines, as functions that do nothing. A caller calls one to use its clauses.
 
-ghost use Rattle.std.specs.Prelude.{◌≡◌, ◌++◌, List};
-ghost use Rattle.asm_scan.specs.Tokens.{Lexeme};
-ghost use Rattle.asm_line.specs.Forms.{form};
+mod forms;
+mod replacing;
+mod tokens;
 
-/// The tokens after the head are the last tokens of the line.
-pub fn rest_is_last()
-    ensures { (tokens : List Lexeme) → (before : List Lexeme) × (tokens ≡ before ++ (form tokens).rest) }
-{}
+pub use forms::rest_is_last;
+pub use replacing::{by_names, front_stays, unreplaced};
+pub use tokens::{one_answer, scanned, some_answer, spans};

@@ -2,11 +2,11 @@
 
 ghost use Rattle.std.specs.Prelude.{◌≡◌, map, IfOk};
 ghost use Rattle.std.specs.Option.{option_map};
-ghost use Rattle.asm_scan.specs.Tokens.{lexemes};
+ghost use Rattle.asm_line.specs.Tokens.{lexemes};
 ghost use Rattle.asm_line.specs.Lists.{name_list};
 
+use crate::Token;
 use crate::single::{is_comma, is_name};
-use asm_scan::Token;
 use std::alloc::{AllocError, Global};
 
 /// The names in upper case, at least one; None if the tokens are not names separated by commas.

@@ -1,10 +1,10 @@
 //! Tests of single tokens.
 
 ghost use Rattle.std.specs.Prelude.{◌≡◌};
-ghost use Rattle.asm_scan.specs.Tokens.{lexeme};
-ghost use Rattle.asm_line.specs.Tokens.{is_colon, is_comma, is_name, is_word};
+ghost use Rattle.asm_line.specs.Tokens.{lexeme};
+ghost use Rattle.asm_line.specs.Single.{is_colon, is_comma, is_name, is_word};
 
-use asm_scan::{Kind, Mark, Token};
+use crate::{Kind, Mark, Token};
 
 /// Whether a token is a name.
 pub fn is_name(token: &Token<'_>) -> bool

@@ -2,7 +2,7 @@
 use Rattle.std.proofs.Common.{◌≡◌, ◌<◌, ◌+◌, ◌∙◌, ap, refl, ℕ, false, nat_le, List, [], ◌∷◌, Option, Some, None, length}
 use Rattle.std.proofs.lemmas.Bool.{lt-leb}
 use Rattle.asm_macro.specs.declared.take.TheConstants.{MOST_NESTED}
-use Rattle.asm_scan.specs.Tokens.{Lexeme}
+use Rattle.asm_line.specs.Tokens.{Lexeme}
 use Rattle.asm_line.specs.Forms.{Form}
 use Rattle.asm_text.specs.declared.call.Macro as kept
 use Rattle.asm_macro.specs.declared.fault.MacroFault.{MacroFault}

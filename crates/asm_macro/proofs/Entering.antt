@@ -1,7 +1,7 @@
 -- The body of a call begins.
 use Rattle.std.proofs.Common.{◌≡◌, ◌+◌, ◌∙◌, sym, ap, refl, ℕ, List, [], ◌∷◌, Option, Some, None, reverse, length, arith}
-use Rattle.asm_scan.specs.Tokens.{Lexeme}
-use Rattle.asm_replace.specs.Replaced.{ReplacementTable, replaced_tokens}
+use Rattle.asm_line.specs.Tokens.{Lexeme}
+use Rattle.asm_line.specs.Replacing.Replaced.{ReplacementTable, replaced_tokens}
 use Rattle.asm_macro.specs.declared.expansion.Expansion.{Expansion}
 use Rattle.asm_text.specs.declared.span.Span.{Span}
 use Rattle.asm_text.specs.declared.following.Following.{Following}

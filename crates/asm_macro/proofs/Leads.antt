@@ -4,9 +4,9 @@ use Rattle.std.proofs.lemmas.Bool.{leb-false}
 use Rattle.std.specs.Str.{bytes_eq}
 use Rattle.asm_macro.specs.declared.take.TheConstants.{MOST_NESTED}
 use Rattle.asm_macro.specs.declared.expansion.TheConstants.{MOST_LINES}
-use Rattle.asm_scan.specs.declared.fault.ScanFault.{ScanFault}
-use Rattle.asm_scan.specs.Tokens.{Lexeme}
-use Rattle.asm_scan.specs.Scanned.{scanned}
+use Rattle.asm_line.specs.declared.fault.ScanFault.{ScanFault}
+use Rattle.asm_line.specs.Tokens.{Lexeme}
+use Rattle.asm_line.specs.Scanned.{scanned}
 use Rattle.common.specs.Words.{upper}
 use Rattle.asm_line.specs.declared.forms.BlockWord.{BlockWord}
 use Rattle.asm_line.specs.Forms.{Form, Head}

@@ -2,7 +2,7 @@
 use Rattle.std.proofs.Common.{◌≡◌, ◌∙◌, sym, ap, refl, ℕ, List, [], ◌∷◌, ◌++◌, Some, None, Vec, map, reverse, length, arith}
 use Rattle.std.specs.Global.{Global}
 use Rattle.std.proofs.lemmas.List.{map-append}
-use Rattle.asm_replace.specs.Views as replaced
+use Rattle.asm_line.specs.Replacing.Views as replaced
 use Rattle.asm_text.specs.declared.call.Macro.{Macro}
 use Rattle.asm_text.specs.declared.stretch.Block.{Block}
 use Rattle.asm_text.specs.Lines.{Numbered}

@@ -1,7 +1,7 @@
 -- Where expansion continues at a block: the code's answer is the part that the definitions give.
 use Rattle.std.proofs.Common.{◌≡◌, ◌<◌, ◌≤◌, ◌+◌, ◌∙◌, sym, ap, refl, ℕ, zero, suc, Bool, true, false, if◌then◌else◌, List, [], ◌∷◌, Option, Some, None, arith}
 use Rattle.asm_macro.specs.declared.take.TheConstants.{MOST_NESTED}
-use Rattle.asm_replace.specs.Replaced.{ReplacementTable}
+use Rattle.asm_line.specs.Replacing.Replaced.{ReplacementTable}
 use Rattle.asm_text.specs.Lines.{Numbered, form_of}
 use Rattle.asm_text.specs.Roles.{is_alone}
 use Rattle.asm_text.specs.Spans.{text_of}

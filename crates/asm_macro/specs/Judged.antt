@@ -2,14 +2,14 @@
 -- In words: docs/LANGUAGE.md, section 'Macros'.
 use Rattle.std.specs.Prelude.{ℕ, Bool, true, false, not, ◌||◌, ◌&&◌, List, [], ◌∷◌, Option, Some, None, Result, Ok, Err, if◌then◌else◌, nat_le, nat_lt, is_some}
 use Rattle.asm_macro.specs.declared.expansion.TheConstants.{MOST_LINES}
-use Rattle.asm_scan.specs.declared.fault.ScanFault.{ScanFault}
-use Rattle.asm_scan.specs.Tokens.{Lexeme}
+use Rattle.asm_line.specs.declared.fault.ScanFault.{ScanFault}
+use Rattle.asm_line.specs.Tokens.{Lexeme}
 use Rattle.common.specs.Words.{upper, is_reserved}
 use Rattle.asm_line.specs.declared.forms.BlockWord.{BlockWord}
 use Rattle.asm_line.specs.Forms.{Form, Head}
 use Rattle.asm_line.specs.Forms as line
 use Rattle.asm_line.specs.Lists.{name_list}
-use Rattle.asm_scan.specs.Scanned.{scanned}
+use Rattle.asm_line.specs.Scanned.{scanned}
 use Rattle.asm_macro.specs.declared.fault.MacroFault.{MacroFault}
 use Rattle.asm_macro.specs.Faults.{fault_of_scan}
 use Rattle.asm_text.specs.Lines.{Numbered, form_of}

@@ -2,16 +2,15 @@
 -- In words: docs/LANGUAGE.md, section 'REPT and IF'.
 use Rattle.std.specs.Prelude.{ℕ, [], ◌∷◌, List, Result, Ok, Err, if◌then◌else◌}
 use Rattle.std.specs.List.{list_all}
-use Rattle.asm_scan.specs.Tokens.{Lexeme}
+use Rattle.asm_line.specs.Tokens.{Lexeme}
 use Rattle.asm_parse.specs.Source.{Operand}
 use Rattle.asm_parse.specs.Parsed.{parsed}
 use Rattle.asm_parse.specs.declared.fault.ExprFault.{ExprFault}
 use Rattle.asm_parse.specs.declared.item.Item.{Item}
-use Rattle.asm_expr.specs.Below.{Atom}
+use Rattle.asm_expr.specs.Below.{Atom, source}
 use Rattle.asm_expr.specs.declared.answer.Settled.{Settled}
 use Rattle.asm_expr.specs.Names.{Table}
 use Rattle.asm_expr.specs.Origins.{is_number_item}
-use Rattle.asm_expr.specs.Below.{source}
 use Rattle.asm_expr.specs.Settling.{settled}
 use Rattle.asm_macro.specs.declared.fault.MacroFault.{MacroFault}
 use Rattle.asm_macro.specs.Faults.{fault_of_expr}

@@ -5,7 +5,7 @@ ghost use Rattle.asm_parse.specs.declared.item.Item.{Item};
 ghost use Rattle.asm_expr.specs.Below.{Atom};
 ghost use Rattle.asm_expr.specs.declared.answer.Settled.{Settled};
 ghost use Rattle.common.specs.Words.{upper};
-ghost use Rattle.asm_scan.specs.Tokens.{lexemes};
+ghost use Rattle.asm_line.specs.Tokens.{lexemes};
 ghost use Rattle.asm_macro.specs.declared.fault.MacroFault.{MacroFault};
 ghost use Rattle.asm_macro.specs.Values.{value_of_tokens};
 ghost use Rattle.asm_macro.specs.Private.Heads.{constants_with};
@@ -15,7 +15,7 @@ ghost use Rattle.asm_macro.specs.Private.Constants.{constants_in, table_of};
 
 use crate::fault::MacroFault;
 use asm_expr::{Meaning, Names, Settled, constant, is_constant, is_defined, parse, settle};
-use asm_scan::Token;
+use asm_line::Token;
 use common::NameKey;
 use std::alloc::{AllocError, Global};
 use std::marker::Model;

@@ -9,7 +9,7 @@ use crate::expansion::Expansion;
 use crate::fault::MacroFault;
 use crate::moves::{Given, Stop};
 use crate::source::begin;
-use asm_scan::Token;
+use asm_line::Token;
 use std::alloc::Global;
 use std::marker::Model;
 

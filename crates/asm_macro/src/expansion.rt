@@ -1,7 +1,7 @@
 //! Keeps what is known while a source is expanded, and what is left to expand; moves from line to line.
 
 ghost use Rattle.std.specs.Prelude.{◌≡◌, ◌≢◌, ◌<◌, ◌≤◌, ◌+◌, ◌∷◌, ℕ, IfOk, OnOk, List, [], Some, length, reverse, slice_index_or};
-ghost use Rattle.asm_replace.specs.Replaced.{ReplacementTable};
+ghost use Rattle.asm_line.specs.Replacing.Replaced.{ReplacementTable};
 ghost use Rattle.asm_text.specs.Sections.Books.{IsBook};
 ghost use Rattle.asm_macro.specs.Kept.{AreOf};
 ghost use Rattle.asm_macro.specs.Parts.{line_part};
@@ -12,7 +12,7 @@ ghost use Rattle.asm_macro.specs.Private.Moves.{Gives, Goes, IsSound, Lessens, R
 use crate::constants::Constants;
 use crate::expander::Line;
 use crate::moves::{Given, Stop, Taken};
-use asm_scan::Token;
+use asm_line::Token;
 use asm_text::{Book, Call, Following, Lines, Macro, Span, put_shown};
 use common::NameKey;
 use indexmap::IndexMap;

@@ -3,7 +3,7 @@
 ghost use Rattle.std.specs.Prelude.{◌≡◌, ◌≤◌, ◌+◌, OnOk, List, Option, length, ℕ};
 ghost use Rattle.asm_macro.specs.declared.take.TheConstants.{MOST_NESTED};
 ghost use Rattle.asm_macro.specs.declared.expansion.TheConstants.{MOST_LINES};
-ghost use Rattle.asm_replace.specs.Replaced.{ReplacementTable};
+ghost use Rattle.asm_line.specs.Replacing.Replaced.{ReplacementTable};
 ghost use Rattle.asm_text.specs.Lines.{Numbered};
 ghost use Rattle.asm_text.specs.Sections.Sections.{branches_seen};
 ghost use Rattle.asm_text.specs.Sections.Views.{next_of, onward_seen};

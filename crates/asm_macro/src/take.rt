@@ -3,12 +3,12 @@
 ghost use Rattle.std.specs.Prelude.{◌≡◌, ◌<◌, ◌≤◌, ◌+◌, ◌||◌, nat_lt, All, IfOk, IfSome, OnOk, Ok, List, ℕ, None, Some, codes, false, length, true};
 ghost use Rattle.std.specs.Option.{option_map};
 ghost use Rattle.asm_macro.specs.declared.take.TheConstants.{MOST_NESTED};
-ghost use Rattle.asm_scan.specs.Tokens.{lexemes};
-ghost use Rattle.asm_scan.specs.Scanned.{scanned};
+ghost use Rattle.asm_line.specs.Tokens.{lexemes};
+ghost use Rattle.asm_line.specs.Scanned.{scanned};
 ghost use Rattle.common.specs.Words.{upper};
-ghost use Rattle.asm_line.specs.Views.{form_seen, head_seen};
-ghost use Rattle.asm_replace.specs.Views.{texts};
-ghost use Rattle.asm_replace.specs.Replaced.{ReplacementTable};
+ghost use Rattle.asm_line.specs.FormViews.{form_seen, head_seen};
+ghost use Rattle.asm_line.specs.Replacing.Views.{texts};
+ghost use Rattle.asm_line.specs.Replacing.Replaced.{ReplacementTable};
 ghost use Rattle.asm_text.specs.Kept.{IsCall, IsKeptMacro};
 ghost use Rattle.asm_text.specs.Prepared.{SaySame, body_texts, macro_seen, macros_seen, said};
 ghost use Rattle.std.specs.Str.{bytes_eq};
@@ -29,8 +29,7 @@ use crate::expander::Line;
 use crate::expansion::{Expansion, MOST_LINES};
 use crate::fault::MacroFault;
 use crate::moves::{Stop, Taken, begun, refused};
-use asm_line::{BlockWord, Form, Head, form_of, names};
-use asm_scan::{ScanFault, Token, tokens};
+use asm_line::{BlockWord, Form, Head, ScanFault, Token, form_of, names, tokens};
 use asm_text::{Book, Call, Following, Macro, Span, label_before, macro_of, prepare, stray};
 use common::{NameKey, is_reserved};
 use indexmap::IndexMap;
@@ -171,7 +170,7 @@ impl<'a> Expansion<'a> {
         ensures around { OnOk result (length self.new.around.items ≤ length self.old.around.items + 1) }
         ensures entered { OnOk result ((names_said : ReplacementTable) → SaySame (said call) names_said → Entered (rest_of self.old) (seen line.entry).number names_said (body_texts self.old.lines body) counter (rest_of self.new)) }
     {
-        asm_replace::laws::by_names();
+        asm_line::laws::by_names();
         self.around.push(Following::Rest(self.text))?;
         self.calls.push(call)?;
         let book = mem::replace(&mut self.book, Book::new(self.alloc));

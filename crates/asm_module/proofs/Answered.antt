@@ -5,15 +5,15 @@ use Rattle.asm_macro.specs.Expands.{End, Ended, IsExpanded, IsExpansion, Stopped
 use Rattle.asm_macro.specs.Texts.{source_lines}
 use Rattle.asm_names.specs.Faults.{first}
 use Rattle.asm_names.specs.Lines.{Taken}
-use Rattle.asm_statements.specs.Program.Statement as program
+use Rattle.asm_module.specs.Program.Statement as program
 use Rattle.asm_module.specs.Reads.Read.{taken}
 use Rattle.asm_module.specs.Reads.Source.{last_listed}
 use Rattle.asm_text.specs.Lines.{Numbered}
-use Rattle.zmo_module.specs.Modules.{Module}
+use Rattle.zmo_object.specs.Modules.{Module}
 use Rattle.asm_module.proofs.Once.{OfLines, equ_fault_same, lines_same, module_same, program_same, state_fault_same}
 use Rattle.asm_module.specs.Assembled.{Assembled, Assembles, HasCause, IsProgram, IsStated, TellsLines, answer, assembled}
 use Rattle.asm_module.specs.declared.fault.AsmFault.{AsmFault}
-use Rattle.asm_statements.specs.Outlines.{layout}
+use Rattle.asm_module.specs.Outlines.{layout}
 use Rattle.asm_module.specs.Source.{first_equ_line_fault, first_pass, module_by, state_fault, statement_lines}
 
 abbrev Expansion : Type 0

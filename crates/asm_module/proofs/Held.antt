@@ -6,9 +6,9 @@ use Rattle.asm_names.specs.Meanings.{externals}
 use Rattle.asm_module.specs.Holding.{begins, entry, labels, listed, publics}
 use Rattle.asm_names.specs.Lines.{Taken}
 use Rattle.asm_names.specs.Names.{Names, names}
-use Rattle.zmo_module.specs.declared.module.Label as label
-use Rattle.zmo_module.specs.declared.module.Module as whole
-use Rattle.zmo_module.specs.Modules.{Label, Module, label_of, module_of, statement_of}
+use Rattle.zmo_object.specs.declared.module.Label as label
+use Rattle.zmo_object.specs.declared.module.Module as whole
+use Rattle.zmo_object.specs.Modules.{Label, Module, label_of, module_of, statement_of}
 use Rattle.asm_module.specs.Private.Steps.{held}
 use Rattle.asm_module.proofs.Holding.Keeping.{few_kept}
 

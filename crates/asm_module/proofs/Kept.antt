@@ -5,12 +5,12 @@ use Rattle.asm_names.specs.Layout.{Layout, layout_of, next_at}
 use Rattle.asm_names.specs.Lines.{Taken}
 use Rattle.asm_names.specs.Meanings.{externals}
 use Rattle.asm_names.specs.Names.{names}
-use Rattle.asm_statements.specs.declared.outlining.Outline.{Outline}
-use Rattle.asm_statements.specs.Outlines.{IsOutline, circle_of, outline_table, source_table}
-use Rattle.asm_statements.specs.Program.Lines.{AreAt, program_of_lines}
-use Rattle.asm_statements.specs.Rules.Object.{AreObjectNames, AreObjectStatements}
-use Rattle.zmo_module.specs.Modules.{ModuleStatement}
-use Rattle.zmo_module.specs.Rules.{IsModule, IsObjectName}
+use Rattle.asm_module.specs.declared.statements.outlining.Outline.{Outline}
+use Rattle.asm_module.specs.Outlines.{IsOutline, circle_of, outline_table, source_table}
+use Rattle.asm_module.specs.Program.Lines.{AreAt, program_of_lines}
+use Rattle.asm_module.specs.Rules.Object.{AreObjectNames, AreObjectStatements}
+use Rattle.zmo_object.specs.Modules.{ModuleStatement}
+use Rattle.zmo_object.specs.Rules.{IsModule, IsObjectName}
 use Rattle.asm_module.specs.Assembled.{StatesLines}
 use Rattle.asm_module.specs.Holding.{labels, listed}
 use Rattle.asm_module.specs.Private.Steps.{held}

@@ -1,3 +1,8 @@
+mod Layouts
+mod Modules
+pub mod Program
+mod Rules
+mod Emitted
 mod Reading_lines
 mod Holding
 mod Once

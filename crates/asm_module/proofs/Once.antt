@@ -15,17 +15,17 @@ use Rattle.asm_names.specs.declared.equ_fault.EquFault.{EquFault}
 use Rattle.asm_names.specs.Layout.{Layout}
 use Rattle.asm_names.specs.Meanings as equ
 use Rattle.asm_names.specs.Meanings.{Entries, after_rounds, name_meanings, meaning, meaning_by, table_at, undefined, valueless}
-use Rattle.asm_statements.specs.Layouts.Laid.{laid}
+use Rattle.asm_module.specs.Layouts.Laid.{laid}
 use Rattle.asm_names.specs.declared.kind.Kind.{Kind}
 use Rattle.asm_names.specs.Faults.{first, if_so}
 use Rattle.asm_names.specs.Lines.{Taken, placed}
 use Rattle.asm_names.specs.Names.{kind_of_name, names}
 use Rattle.asm_spell.specs.Line as line
 use Rattle.asm_spell.specs.Line.{ExpressionItems, Line}
-use Rattle.asm_statements.specs.Program.Lines.{program_of_lines}
-use Rattle.asm_statements.specs.Module.Stated as stated
-use Rattle.asm_statements.specs.Module.Stated.{numbered_statements}
-use Rattle.asm_statements.specs.Outlines.{layout, no_layout, source_table}
+use Rattle.asm_module.specs.Program.Lines.{program_of_lines}
+use Rattle.asm_module.specs.Module.Stated as stated
+use Rattle.asm_module.specs.Module.Stated.{numbered_statements}
+use Rattle.asm_module.specs.Outlines.{layout, no_layout, source_table}
 use Rattle.asm_module.specs.Source.{fault_on_line, first_equ_line_fault, module_by, state_fault, statement_lines}
 use Rattle.asm_module.specs.Whys.{equ_why, state_why}
 

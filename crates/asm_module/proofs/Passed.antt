@@ -6,13 +6,13 @@ use Rattle.asm_names.specs.Faults.{first}
 use Rattle.asm_names.specs.Layout.{Layout, layout_of}
 use Rattle.asm_names.specs.Lines.{Taken}
 use Rattle.asm_names.specs.Names.{names}
-use Rattle.asm_statements.specs.declared.fault.StateFault.{StateFault}
-use Rattle.asm_statements.specs.declared.outlining.Outline.{Outline}
-use Rattle.asm_statements.specs.Module.Stated as stated
-use Rattle.asm_statements.specs.Module.Stated.{AreStated, numbered_statements}
-use Rattle.asm_statements.specs.Outlines as source
-use Rattle.asm_statements.specs.Outlines.{IsOutline, circle_of, outline_table, source_table}
-use Rattle.zmo_module.specs.Modules.{Module, ModuleStatement}
+use Rattle.asm_module.specs.declared.statements.fault.StateFault.{StateFault}
+use Rattle.asm_module.specs.declared.statements.outlining.Outline.{Outline}
+use Rattle.asm_module.specs.Module.Stated as stated
+use Rattle.asm_module.specs.Module.Stated.{AreStated, numbered_statements}
+use Rattle.asm_module.specs.Outlines as source
+use Rattle.asm_module.specs.Outlines.{IsOutline, circle_of, outline_table, source_table}
+use Rattle.zmo_object.specs.Modules.{Module, ModuleStatement}
 use Rattle.asm_module.specs.declared.fault.AsmFault.{AsmFault}
 use Rattle.asm_module.specs.declared.fault.Why.{Why}
 use Rattle.asm_module.specs.Private.Steps.{HasFault, IsWhole, held}

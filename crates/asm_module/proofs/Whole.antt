@@ -3,8 +3,8 @@ use Rattle.std.proofs.Common.{◌≡◌, ◌≤◌, ◌∙◌, sym, ap, refl, su
 use Rattle.std.specs.List.{All}
 use Rattle.std.proofs.lemmas.List.{length-map}
 use Rattle.asm_macro.specs.declared.expansion.TheConstants.{MOST_LINES}
-use Rattle.asm_statements.specs.Outlines as source
-use Rattle.asm_statements.specs.Program.Spelled.{IsLineOfText}
+use Rattle.asm_module.specs.Outlines as source
+use Rattle.asm_module.specs.Program.Spelled.{IsLineOfText}
 use Rattle.asm_names.specs.Circles.{TellsCircles}
 use Rattle.asm_macro.specs.declared.fault.MacroFault.{MacroFault}
 use Rattle.asm_macro.specs.Expands.{End, IsExpanded, IsExpansion}
@@ -17,7 +17,7 @@ use Rattle.asm_module.specs.declared.line_fault.LineFault.{LineFault}
 use Rattle.asm_module.specs.Reads.Read.{taken, unread}
 use Rattle.asm_module.specs.Reads.Source.{IsSourceText, last_listed}
 use Rattle.asm_text.specs.Lines.{Numbered}
-use Rattle.zmo_module.specs.Modules.{Module}
+use Rattle.zmo_object.specs.Modules.{Module}
 use Rattle.asm_module.specs.Assembled.{Assembles, IsRefused, TellsLines, answer}
 use Rattle.asm_module.specs.declared.fault.AsmFault.{AsmFault}
 use Rattle.asm_module.specs.declared.fault.Why.{Why}

@@ -6,14 +6,14 @@ use Rattle.asm_macro.specs.Expands.{IsExpanded}
 use Rattle.asm_macro.specs.Texts.{source_lines}
 use Rattle.asm_names.specs.Lines.{Taken}
 use Rattle.asm_names.specs.Names.{names}
-use Rattle.asm_statements.specs.Outlines.{layout, source_table}
-use Rattle.asm_statements.specs.Program.Statement as stated
-use Rattle.asm_statements.specs.Program.Lines.{AreAt, program_of_lines}
+use Rattle.asm_module.specs.Outlines.{layout, source_table}
+use Rattle.asm_module.specs.Program.Statement as stated
+use Rattle.asm_module.specs.Program.Lines.{AreAt, program_of_lines}
 use Rattle.asm_module.specs.Reads.Read.{taken}
 use Rattle.asm_module.specs.Reads.Source.{last_listed}
 use Rattle.asm_text.specs.Lines.{Numbered}
-use Rattle.zmo_module.specs.declared.module.Module as whole
-use Rattle.zmo_module.specs.Modules.{Module, ModuleStatement, module_of}
+use Rattle.zmo_object.specs.declared.module.Module as whole
+use Rattle.zmo_object.specs.Modules.{Module, ModuleStatement, module_of}
 use Rattle.asm_module.specs.declared.assembling.Lines as listing
 use Rattle.asm_module.specs.declared.fault.AsmFault.{AsmFault}
 use Rattle.asm_module.specs.declared.fault.Why.{Why}

@@ -1,5 +1,5 @@
 -- Words from the crates below, passed on to the crates above.
-pub use Rattle.asm_statements.specs.Program.Lines.{AreAt, IsLinkedAs}
-pub use Rattle.asm_statements.specs.Layouts.Sizes.{size_in_module, sizes}
-pub use Rattle.asm_statements.specs.Module.Stated.{numbered_statements}
-pub use Rattle.asm_statements.specs.Outlines.{layout, source_table}
+pub use Rattle.asm_module.specs.Program.Lines.{AreAt, IsLinkedAs}
+pub use Rattle.asm_module.specs.Layouts.Sizes.{size_in_module, sizes}
+pub use Rattle.asm_module.specs.Module.Stated.{numbered_statements}
+pub use Rattle.asm_module.specs.Outlines.{layout, source_table}

@@ -10,7 +10,7 @@ use Rattle.asm_names.specs.declared.kind.Kind.{Kind}
 use Rattle.asm_names.specs.Lines.{Taken}
 use Rattle.asm_names.specs.Names.{Names}
 use Rattle.asm_names.specs.Layout.{Layout, next_at}
-use Rattle.zmo_module.specs.Modules.{Label}
+use Rattle.zmo_object.specs.Modules.{Label}
 
 abbrev pub label_in : Layout → List ℕ × Kind → Option Label
 label_in layout (name, Kind.Label at) = Some (record { statement = next_at layout at; name = name })

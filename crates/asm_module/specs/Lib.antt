@@ -1,3 +1,8 @@
+pub mod Layouts
+pub mod Module
+pub mod Outlines
+pub mod Program
+pub mod Rules
 pub mod Reads
 pub mod Holding
 pub mod Below

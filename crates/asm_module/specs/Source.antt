@@ -2,7 +2,7 @@
 -- In words: docs/LANGUAGE.md, section 'Modules'.
 use Rattle.std.specs.Prelude.{ℕ, Bool, List, [], ◌∷◌, Option, map, take}
 use Rattle.std.specs.Option.{option_map}
-use Rattle.zmo_module.specs.declared.module.TheConstants.{LONGEST_NAME}
+use Rattle.zmo_object.specs.declared.module.TheConstants.{LONGEST_NAME}
 use Rattle.asm_names.specs.Layout.{Layout}
 use Rattle.asm_names.specs.Meanings as equ
 use Rattle.asm_names.specs.Meanings.{externals}
@@ -11,11 +11,11 @@ use Rattle.asm_names.specs.Faults.{first}
 use Rattle.asm_names.specs.Lines.{Taken}
 use Rattle.asm_names.specs.Names.{names}
 use Rattle.asm_module.specs.Reads.Read.{taken, unread}
-use Rattle.asm_statements.specs.Module.Stated as stated
-use Rattle.asm_statements.specs.Module.Stated.{numbered_statements}
-use Rattle.asm_statements.specs.Outlines.{layout, source_table}
+use Rattle.asm_module.specs.Module.Stated as stated
+use Rattle.asm_module.specs.Module.Stated.{numbered_statements}
+use Rattle.asm_module.specs.Outlines.{layout, source_table}
 use Rattle.asm_text.specs.Lines.{Numbered}
-use Rattle.zmo_module.specs.Modules.{Module}
+use Rattle.zmo_object.specs.Modules.{Module}
 use Rattle.asm_module.specs.declared.fault.AsmFault.{AsmFault}
 use Rattle.asm_module.specs.declared.fault.Why.{Why}
 use Rattle.asm_module.specs.Holding.{begins, entry, labels, listed, publics}

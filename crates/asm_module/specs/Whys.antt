@@ -4,7 +4,7 @@ use Rattle.asm_macro.specs.declared.fault.MacroFault.{MacroFault}
 use Rattle.asm_names.specs.declared.fault.NameFault.{NameFault}
 use Rattle.asm_module.specs.declared.line_fault.LineFault.{LineFault}
 use Rattle.asm_spell.specs.declared.fault.StmtFault.{StmtFault}
-use Rattle.asm_statements.specs.declared.fault.StateFault.{StateFault}
+use Rattle.asm_module.specs.declared.statements.fault.StateFault.{StateFault}
 use Rattle.asm_module.specs.declared.fault.Why.{Why}
 
 abbrev pub macro_why : MacroFault → Why

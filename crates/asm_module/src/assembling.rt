@@ -1,8 +1,8 @@
 //! Assembles a source to a module.
 
 ghost use Rattle.std.specs.Prelude.{IfOk, false};
-ghost use Rattle.zmo_module.specs.Modules.{module_of};
-ghost use Rattle.zmo_module.specs.Rules.{IsModule};
+ghost use Rattle.zmo_object.specs.Modules.{module_of};
+ghost use Rattle.zmo_object.specs.Rules.{IsModule};
 ghost use Rattle.asm_module.specs.Assembled.{IsAssembled, IsAssembledModule, States};
 
 use crate::fault::{AsmFault, of_macro};
@@ -10,7 +10,7 @@ use crate::lines::assemble_lines;
 use crate::naming::first_pass;
 use crate::source::read_source;
 use std::alloc::Global;
-use zmo_module::Module;
+use zmo_object::Module;
 
 /// Which lines of a source its statements come from.
 #[derive(Debug, Drop)]

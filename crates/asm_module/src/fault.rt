@@ -3,11 +3,11 @@
 ghost use Rattle.std.specs.Prelude.{◌≡◌, ℕ};
 ghost use Rattle.asm_module.specs.Whys.{equ_why, line_why, macro_why, name_why, state_why};
 
+use crate::StateFault;
 use crate::line_fault::LineFault;
 use asm_macro::MacroFault;
 use asm_names::{EquFault, NameFault};
 use asm_spell::StmtFault;
-use asm_statements::StateFault;
 use std::alloc::AllocError;
 use thiserror::Error;
 

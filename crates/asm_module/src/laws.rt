@@ -1,5 +1,16 @@
-//! Laws about sources. A law is a function that does nothing and whose clause is a theorem: whoever calls it may use the clause.
+//! Laws about sources and their statements. A law is a function that does nothing and whose clause is a theorem: whoever calls it may use
+//! the clause.
 
 mod answer;
+mod layout;
+mod module;
+mod program;
+mod rules;
+mod source;
 
 pub use answer::one_answer;
+pub use layout::kinds_anywhere;
+pub use module::all_found;
+pub use program::pieces_at_places;
+pub use rules::pieces_keep_rules;
+pub(crate) use source::{emitted, outlined};

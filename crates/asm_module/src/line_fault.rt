@@ -1,6 +1,6 @@
 //! Why a line cannot be parsed.
 
-use asm_scan::ScanFault;
+use asm_line::ScanFault;
 use asm_spell::StmtFault;
 use thiserror::Error;
 

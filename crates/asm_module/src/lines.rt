@@ -2,23 +2,23 @@
 
 ghost use Rattle.std.specs.Prelude.{◌≡◌, ◌≤◌, ◌<◌, ◌^◌, [], All, None, IfOk, length, take};
 ghost use Rattle.common.specs.declared.limits.TheConstants.{MOST_NAMES};
-ghost use Rattle.zmo_module.specs.declared.module.TheConstants.{LONGEST_NAME};
+ghost use Rattle.zmo_object.specs.declared.module.TheConstants.{LONGEST_NAME};
 ghost use Rattle.asm_names.specs.Layout.{layout_of};
 ghost use Rattle.asm_names.specs.Faults.{first_name_fault};
 ghost use Rattle.asm_names.specs.Lines.{lines_of};
 ghost use Rattle.asm_names.specs.Names.{names};
-ghost use Rattle.asm_statements.specs.Program.Spelled.{IsLineOfText};
-ghost use Rattle.zmo_module.specs.Modules.{module_of};
-ghost use Rattle.zmo_module.specs.Rules.{IsModule};
+ghost use Rattle.asm_module.specs.Program.Spelled.{IsLineOfText};
+ghost use Rattle.zmo_object.specs.Modules.{module_of};
+ghost use Rattle.zmo_object.specs.Rules.{IsModule};
 ghost use Rattle.asm_module.specs.Assembled.{StatesLines};
 ghost use Rattle.asm_module.specs.Private.Steps.{AnswersLines, held};
 
 use crate::fault::{AsmFault, of_equ, of_state};
 use crate::passing_on::{begins, entry_of, externals_of, labels_of, publics_of};
+use crate::{emit, outline_of};
 use asm_names::{Layout, NameTable, SourceLine};
-use asm_statements::{emit, outline_of};
 use std::alloc::{AllocError, Global};
-use zmo_module::{LONGEST_NAME, Module};
+use zmo_object::{LONGEST_NAME, Module};
 
 /// Answers the first 255 bytes of a name.
 fn short_name(alloc: Global, name: &[u8]) -> Result<Vec<u8>, AllocError>

@@ -9,7 +9,7 @@ ghost use Rattle.asm_spell.specs.Line.{line_of, listed_names};
 ghost use Rattle.asm_names.specs.Layout.{layout_of};
 ghost use Rattle.asm_names.specs.Meanings.{external_in, externals};
 ghost use Rattle.asm_names.specs.Lines.{lines_of};
-ghost use Rattle.zmo_module.specs.Modules.{label_of};
+ghost use Rattle.zmo_object.specs.Modules.{label_of};
 ghost use Rattle.asm_module.specs.Holding.{begins, entry, entry_name, is_origin_line, label_in, labels, listed, publics};
 
 use crate::listed::Listed;
@@ -17,7 +17,7 @@ use asm_names::{Kind, Layout, NameTable, SourceLine};
 use asm_spell::{Body, KeptName, Line};
 use common::{KeyMixer, NameKey};
 use std::alloc::{AllocError, Global};
-use zmo_module::Label;
+use zmo_object::Label;
 
 /// Answers the label of this name, if the name is a label.
 fn label_in(

@@ -3,16 +3,16 @@
 ghost use Rattle.std.specs.Prelude.{◌≡◌, ◌++◌, ◌∷◌, [], List, OnOk};
 ghost use Rattle.asm_macro.specs.Ahead.{seen};
 ghost use Rattle.asm_macro.specs.Kept.{AreOf};
-ghost use Rattle.asm_scan.specs.Tokens.{lexemes};
+ghost use Rattle.asm_line.specs.Tokens.{lexemes};
 ghost use Rattle.asm_spell.specs.Spelling.{spelled};
 ghost use Rattle.asm_text.specs.Lines.{Numbered};
 ghost use Rattle.asm_module.specs.Private.Reading.{IsReading, Reads, ReadsLine, is_memory};
 ghost use Rattle.asm_module.specs.Reads.Read as lines;
 
 use crate::line_fault::LineFault;
+use asm_line::{ScanFault, Token, tokens};
 use asm_macro::{Expander, Line as MacroLine, MacroFault};
 use asm_names::SourceLine;
-use asm_scan::{ScanFault, Token, tokens};
 use asm_spell::{Line, StmtFault, statement};
 use std::alloc::{AllocError, Global};
 

@@ -1,7 +1,7 @@
 -- An expression of one token.
 use Rattle.std.proofs.Common.{◌≡◌, ◌≤◌, ◌<◌, ◌⊎◌, inl, inr, List, [], ◌∷◌, Result, Err, refl, sym, subst, length, map, get_or, arith}
-use Rattle.asm_scan.specs.Tokens.{lexeme, lexemes}
-use Rattle.asm_scan.specs.declared.token.Token.{Token}
+use Rattle.asm_line.specs.Tokens.{lexeme, lexemes}
+use Rattle.asm_line.specs.declared.token.Token.{Token}
 use Rattle.asm_parse.specs.declared.fault.ExprFault.{ExprFault}
 use Rattle.asm_parse.specs.declared.item.Item.{Item}
 use Rattle.asm_parse.specs.Source.{Operand}

@@ -4,8 +4,8 @@ use Rattle.std.specs.List.{list_all}
 use Rattle.std.specs.Char.{to_ascii_uppercase}
 use Rattle.std.proofs.lemmas.Bool.{and_parts, eqb-true, eq-eqb}
 use Rattle.std.proofs.lemmas.List.Sums.{AllPass-from_list_all, list_all-from_AllPass}
-use Rattle.asm_scan.specs.Classes.{begins_name, continues_name}
-use Rattle.asm_scan.specs.Tokens.{IsName}
+use Rattle.asm_line.specs.Classes.{begins_name, continues_name}
+use Rattle.asm_line.specs.Tokens.{IsName}
 use Rattle.common.specs.Words.{upper, is_reserved}
 use Rattle.asm_parse.specs.Names.{IsDefinable}
 use Rattle.asm_parse.specs.Private.Named.{is_one_name, is_upper}

@@ -1,14 +1,13 @@
 -- The state of the code that reads symbols, after one step.
 use Rattle.std.proofs.Common.{◌≡◌, ◌≤◌, ◌<◌, ℕ, ◌+◌, ◌-◌, max, Bool, true, false, List, [], ◌∷◌, ◌++◌, Option, Some, None, Ok, Err, length, map, drop, get_or, if◌then◌else◌, is_some, refl, sym, ap, subst, ◌∙◌, arith, append-nil, length-append}
-use Rattle.std.specs.Prelude.{slice_get}
+use Rattle.std.specs.Prelude.{slice_get, ◌==◌}
 use Rattle.std.proofs.lemmas.Bool.{le-leb, lt-leb, true≢false, eqb-true, eq-eqb}
 use Rattle.std.proofs.lemmas.List.{at_drop_more, at_drop_all, get_or-map, length-map}
-use Rattle.std.specs.Prelude.{◌==◌}
 use Rattle.asm_parse.specs.declared.reader.Reader.{Reader}
-use Rattle.asm_scan.specs.declared.token.Token.{Token}
-use Rattle.asm_scan.specs.Tokens.{lexeme, lexemes}
-use Rattle.asm_parse.specs.Expression.{and_then}
-use Rattle.asm_parse.specs.Source.{AreExpressionItems, source_item}
+use Rattle.asm_line.specs.declared.token.Token.{Token}
+use Rattle.asm_line.specs.Tokens.{lexeme, lexemes}
+use Rattle.asm_parse.specs.Expression.{and_then, postfix}
+use Rattle.asm_parse.specs.Source.{AreExpressionItems, source_item, Operand}
 use Rattle.asm_parse.specs.declared.fault.ExprFault.{ExprFault}
 use Rattle.asm_parse.specs.declared.item.Item.{Item}
 use Rattle.asm_parse.specs.declared.sign.Prefix.{Prefix}
@@ -16,8 +15,6 @@ use Rattle.asm_parse.specs.declared.sign.Sign.{Sign}
 use Rattle.asm_parse.specs.declared.operator.Binary.{Binary}
 use Rattle.asm_parse.specs.declared.reader.Operator.{Operator}
 use Rattle.asm_parse.specs.declared.reader.Pending.{Pending}
-use Rattle.asm_parse.specs.Expression.{postfix}
-use Rattle.asm_parse.specs.Source.{Operand}
 use Rattle.asm_parse.specs.Grammar.{Phrase, Prefixed, Joined, prefix_level, infix_level, depth, expression, GrammarSymbol, SpellsPhrase, IsParsed, symbol}
 use Rattle.asm_parse.specs.Private.Parsing.{Frame, Inside, Under, RightOf, State, reduce, room, enclosed, sign_before, sign_behind, under_prefix, right_of, ended, finish, finish_by, reading, step, start}
 use Rattle.asm_parse.specs.Words.{prefix_of, infix_of}

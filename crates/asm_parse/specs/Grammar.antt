@@ -1,9 +1,9 @@
 -- Which tokens make which expression, and how deep it is.
 -- In words: docs/LANGUAGE.md, section 'Expressions'.
 use Rattle.std.specs.Prelude.{◌≡◌, ◌≤◌, ◌<◌, ℕ, ◌+◌, max, List, [], ◌∷◌, ◌++◌, Option, Some, None, Result, Ok, Err, if◌then◌else◌, ◌==◌}
-use Rattle.asm_scan.specs.declared.token.Kind.{Kind}
-use Rattle.asm_scan.specs.declared.token.Mark.{Mark}
-use Rattle.asm_scan.specs.Tokens.{Lexeme}
+use Rattle.asm_line.specs.declared.token.Kind.{Kind}
+use Rattle.asm_line.specs.declared.token.Mark.{Mark}
+use Rattle.asm_line.specs.Tokens.{Lexeme}
 use Rattle.asm_parse.specs.declared.fault.ExprFault.{ExprFault}
 use Rattle.asm_parse.specs.declared.operator.Unary.{Unary}
 use Rattle.asm_parse.specs.declared.operator.Binary.{Binary}

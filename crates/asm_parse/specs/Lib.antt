@@ -6,4 +6,6 @@ pub mod Words
 pub mod Names
 pub mod Grammar
 pub mod Parsed
+pub mod Types
+pub mod Values
 pub mod Private

@@ -1,7 +1,7 @@
 -- Names that a program can define.
 -- In words: docs/LANGUAGE.md, section 'Names, numbers, strings'.
 use Rattle.std.specs.Prelude.{◌≡◌, ℕ, false, List}
-use Rattle.asm_scan.specs.Tokens.{IsName}
+use Rattle.asm_line.specs.Tokens.{IsName}
 use Rattle.common.specs.Words.{upper, is_reserved}
 
 -- The whole text is one name, in upper case, and not reserved.

@@ -1,7 +1,7 @@
 -- The expression of some symbols, as a function. laws::parsed says that this is what IsParsed means, so nobody has to follow how it
 -- is found. It is here for definitions about the expression of some tokens.
 use Rattle.std.specs.Prelude.{List, Option, Some, None, Result, Ok, Err, if◌then◌else◌, map, nat_lt}
-use Rattle.asm_scan.specs.Tokens.{Lexeme}
+use Rattle.asm_line.specs.Tokens.{Lexeme}
 use Rattle.asm_parse.specs.declared.fault.ExprFault.{ExprFault}
 use Rattle.asm_parse.specs.declared.item.Item.{Item}
 use Rattle.asm_parse.specs.declared.reader.TheConstants.{MOST_OPEN}

@@ -4,3 +4,5 @@ pub mod Parsing
 pub mod Stacks
 pub mod Readers
 pub mod Named
+pub mod Steps
+pub mod Sums

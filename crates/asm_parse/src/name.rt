@@ -2,12 +2,12 @@
 
 ghost use Rattle.std.specs.Prelude.{◌≡◌, ◌↔◌, ◌&&◌, not, IsTrue};
 ghost use Rattle.std.specs.List.{list_all};
-ghost use Rattle.asm_scan.specs.Classes.{continues_name};
+ghost use Rattle.asm_line.specs.Classes.{continues_name};
 ghost use Rattle.common.specs.Words.{is_reserved};
 ghost use Rattle.asm_parse.specs.Names.{IsDefinable};
 ghost use Rattle.asm_parse.specs.Private.Named.{is_one_name, is_upper};
 
-use asm_scan::{begins_name, continues_name};
+use asm_line::{begins_name, continues_name};
 use common::is_reserved;
 
 /// Whether all bytes can come after the first byte of a name.

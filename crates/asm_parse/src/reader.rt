@@ -2,7 +2,7 @@
 //! written after their operands.
 
 ghost use Rattle.std.specs.Prelude.{◌≡◌, ◌≤◌, ◌⊎◌, ◌∷◌, [], List, ◌++◌, map, max, Some, Ok, Err, IfOk, IfErr};
-ghost use Rattle.asm_scan.specs.Tokens.{lexeme, lexemes};
+ghost use Rattle.asm_line.specs.Tokens.{lexeme, lexemes};
 ghost use Rattle.asm_parse.specs.declared.fault.ExprFault.{ExprFault};
 ghost use Rattle.asm_parse.specs.Expression.{postfix};
 ghost use Rattle.asm_parse.specs.Source.{operand, source_item};
@@ -18,7 +18,7 @@ use crate::item::{Item, Term, TermView};
 use crate::operator::{Binary, Unary};
 use crate::sign::{Prefix, Sign, sign_of};
 use crate::tree::Tree;
-use asm_scan::{Kind, Mark, Token};
+use asm_line::{Kind, Mark, Token};
 use common::is_reserved;
 use smallvec::SmallVec;
 use std::alloc::Global;

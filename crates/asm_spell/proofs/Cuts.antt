@@ -1,9 +1,9 @@
 -- The pieces are those that commas outside of parentheses separate, and no others.
 use Rattle.std.proofs.Common.{◌≡◌, ◌≢◌, ◌↔◌, ℕ, ◌==◌, ◌&&◌, Bool, true, false, inl, inr, List, [], ◌∷◌, ◌++◌, cond, refl, sym, ap, ◌∙◌}
 use Rattle.std.proofs.lemmas.Bool.{and_parts, cases_Bool, eqb-true, eq-eqb}
-use Rattle.asm_scan.specs.Tokens.{Lexeme}
+use Rattle.asm_line.specs.Tokens.{Lexeme}
 use Rattle.asm_line.specs.Commas.{open_behind}
-use Rattle.asm_line.specs.Tokens.{is_comma}
+use Rattle.asm_line.specs.Single.{is_comma}
 use Rattle.asm_spell.specs.Operands.{closed_by_last, pieces, with_first}
 use Rattle.asm_spell.specs.Cuts.{AreCut, IsClosed, IsUncut, open_after}
 

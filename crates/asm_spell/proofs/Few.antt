@@ -4,15 +4,15 @@ use Rattle.std.specs.List.{list_any, prefix_len, sum_by}
 use Rattle.std.proofs.lemmas.List.Elements.{All-head, All-tail}
 use Rattle.std.proofs.lemmas.List.Sums.{sum_by-cons}
 use Rattle.common.specs.Results.{◌>>=◌}
-use Rattle.asm_scan.specs.declared.token.Kind.{Kind}
-use Rattle.asm_scan.specs.Classes.{is_blank}
-use Rattle.asm_scan.specs.Lines.{BeginsTokens, Scans}
-use Rattle.asm_scan.specs.Scanned.{scanned}
-use Rattle.asm_scan.specs.Tokens.{Lexeme}
-use Rattle.asm_scan.proofs.Cuts.{token_some}
+use Rattle.asm_line.specs.declared.token.Kind.{Kind}
+use Rattle.asm_line.specs.Classes.{is_blank}
+use Rattle.asm_line.specs.Lines.{BeginsTokens, Scans}
+use Rattle.asm_line.specs.Scanned.{scanned}
+use Rattle.asm_line.specs.Tokens.{Lexeme}
+use Rattle.asm_line.proofs.Cuts.{token_some}
 use Rattle.asm_line.specs.Forms as front
 use Rattle.asm_line.specs.Commas.{open_behind}
-use Rattle.asm_line.specs.Tokens.{is_colon, is_comma, is_name, is_word}
+use Rattle.asm_line.specs.Single.{is_colon, is_comma, is_name, is_word}
 use Rattle.asm_spell.specs.declared.fault.StmtFault.{StmtFault}
 use Rattle.asm_spell.specs.Faults.{each}
 use Rattle.asm_spell.specs.Few.{IsFew, value_size}

@@ -4,7 +4,7 @@ use Rattle.std.specs.List.{list_any}
 use Rattle.std.specs.Prelude.{if◌then◌else◌}
 use Rattle.std.proofs.lemmas.List.{at_drop_more, drop_all, length-drop, append-nil}
 use Rattle.std.proofs.lemmas.Bool.{cases_Bool, eqb-true, eq-eqb}
-use Rattle.asm_scan.specs.Tokens.{doubled}
+use Rattle.asm_line.specs.Tokens.{doubled}
 use Rattle.asm_spell.specs.Directives.{content, undoubled}
 
 -- Whether one of the elements that are left passes a test.

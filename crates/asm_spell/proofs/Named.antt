@@ -12,14 +12,14 @@ use Rattle.std.proofs.lemmas.List.Elements.{All-nil, All-cons, All-head, All-tai
 use Rattle.std.proofs.lemmas.Str.Ascii.{uppercase-uppercase}
 use Rattle.common.specs.Results.{◌>>=◌}
 use Rattle.common.specs.Words.{upper, is_reserved}
-use Rattle.asm_scan.specs.declared.token.Kind.{Kind}
-use Rattle.asm_scan.specs.Classes.{begins_name, continues_name, is_blank}
-use Rattle.asm_scan.specs.Tokens.{IsName, IsToken, Lexeme}
-use Rattle.asm_scan.specs.Lines.{BeginsTokens, Scans, without_blanks}
-use Rattle.asm_scan.specs.Scanned.{scanned}
+use Rattle.asm_line.specs.declared.token.Kind.{Kind}
+use Rattle.asm_line.specs.Classes.{begins_name, continues_name, is_blank}
+use Rattle.asm_line.specs.Tokens.{IsName, IsToken, Lexeme}
+use Rattle.asm_line.specs.Lines.{BeginsTokens, Scans, without_blanks}
+use Rattle.asm_line.specs.Scanned.{scanned}
 use Rattle.asm_line.specs.Forms as front
 use Rattle.asm_line.specs.Lists.{name_list}
-use Rattle.asm_line.specs.Tokens.{is_colon, is_comma, is_name, is_name_kind, is_word}
+use Rattle.asm_line.specs.Single.{is_colon, is_comma, is_name, is_name_kind, is_word}
 use Rattle.asm_line.specs.Commas.{open_behind}
 use Rattle.asm_parse.specs.declared.fault.ExprFault.{ExprFault}
 use Rattle.asm_parse.specs.declared.item.Item.{Item}

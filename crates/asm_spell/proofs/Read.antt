@@ -2,8 +2,8 @@
 use Rattle.std.proofs.Common.{◌≡◌, ℕ, List, ◌∷◌, Ok, Err, Option, Some, None, is_some, true, map, refl, sym, ap, ◌∙◌}
 use Rattle.std.specs.Borrow.{Bor}
 use Rattle.std.specs.Option.{option_and_then}
-use Rattle.asm_scan.specs.declared.token.Token.{Token}
-use Rattle.asm_scan.specs.Tokens.{Lexeme}
+use Rattle.asm_line.specs.declared.token.Token.{Token}
+use Rattle.asm_line.specs.Tokens.{Lexeme}
 use Rattle.z80_form.specs.declared.mnemonic.Mnemonic.{Mnemonic}
 use Rattle.z80_form.specs.declared.form.Form.{Form}
 use Rattle.z80_form.specs.Spelling.{instruction_of}

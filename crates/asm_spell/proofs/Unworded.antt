@@ -1,12 +1,12 @@
 -- A line that does not begin with a word.
 use Rattle.std.proofs.Common.{◌≡◌, ◌≤◌, ℕ, List, [], ◌∷◌, Option, Err, length, refl, arith}
 use Rattle.std.specs.Option.{option_map}
-use Rattle.asm_scan.specs.declared.token.Token.{Token}
-use Rattle.asm_scan.specs.Tokens.{lexemes}
+use Rattle.asm_line.specs.declared.token.Token.{Token}
+use Rattle.asm_line.specs.Tokens.{lexemes}
 use Rattle.asm_line.specs.declared.forms.Form.{Form}
 use Rattle.asm_line.specs.declared.forms.Head.{Head}
 use Rattle.asm_line.specs.Forms as front
-use Rattle.asm_line.specs.Views.{form_seen}
+use Rattle.asm_line.specs.FormViews.{form_seen}
 use Rattle.asm_spell.specs.declared.fault.StmtFault.{StmtFault}
 use Rattle.asm_spell.specs.Spelling.{line_by}
 

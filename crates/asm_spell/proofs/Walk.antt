@@ -9,7 +9,7 @@ use Rattle.common.specs.Words.{upper, is_reserved}
 use Rattle.z80_form.specs.Named.{mnemonic_named}
 use Rattle.z80_form.specs.Spelling.{instruction_of}
 use Rattle.common.specs.Results.{◌>>=◌}
-use Rattle.asm_scan.specs.Tokens.{Lexeme}
+use Rattle.asm_line.specs.Tokens.{Lexeme}
 use Rattle.asm_parse.specs.declared.fault.ExprFault.{ExprFault}
 use Rattle.asm_parse.specs.Parsed.{parsed_by}
 use Rattle.asm_parse.specs.Grammar.{Phrase, symbol}

@@ -1,8 +1,8 @@
 -- The tokens between the parentheses of an operand.
 use Rattle.std.proofs.Common.{◌≡◌, ◌-◌, List, length, take, drop, ap, sym, ◌∙◌, arith}
 use Rattle.std.proofs.lemmas.List.{take-map, drop-map, length-map}
-use Rattle.asm_scan.specs.declared.token.Token.{Token}
-use Rattle.asm_scan.specs.Tokens.{lexeme, lexemes}
+use Rattle.asm_line.specs.declared.token.Token.{Token}
+use Rattle.asm_line.specs.Tokens.{lexeme, lexemes}
 use Rattle.asm_spell.specs.Operands.{inner}
 
 pub inner_is : (ts : List Token) → lexemes (take (length ts - 1 - 1) (drop 1 ts)) ≡ inner (lexemes ts)

@@ -1,9 +1,9 @@
 -- What the cut into operands and the partner of a parenthesis are, given how many parentheses are open at each token. laws::cut and
 -- laws::enclosed say that specs/Operands.antt means the same, so nobody has to follow how its definitions walk over the tokens.
 use Rattle.std.specs.Prelude.{◌≡◌, ◌≢◌, ℕ, true, List, [], ◌∷◌, ◌++◌}
-use Rattle.asm_scan.specs.Tokens.{Lexeme}
+use Rattle.asm_line.specs.Tokens.{Lexeme}
 use Rattle.asm_line.specs.Commas.{open_behind}
-use Rattle.asm_line.specs.Tokens.{is_comma}
+use Rattle.asm_line.specs.Single.{is_comma}
 
 -- how many parentheses are open after these tokens, if `depth` are open before them
 abbrev pub open_after : ℕ → List Lexeme → ℕ

@@ -4,8 +4,8 @@ use Rattle.std.specs.Prelude.{◌==◌, ℕ, Bool, true, false, List, [], ◌∷
 use Rattle.std.specs.List.{list_any}
 use Rattle.std.specs.Map.{lookup}
 use Rattle.std.specs.Str.{str_eq_ignore_ascii_case}
-use Rattle.asm_scan.specs.declared.token.Kind.{Kind}
-use Rattle.asm_scan.specs.Tokens.{Lexeme}
+use Rattle.asm_line.specs.declared.token.Kind.{Kind}
+use Rattle.asm_line.specs.Tokens.{Lexeme}
 use Rattle.common.specs.Results.{◌>>=◌}
 use Rattle.asm_line.specs.Lists.{name_list}
 use Rattle.asm_spell.specs.declared.fault.StmtFault.{StmtFault}

@@ -1,7 +1,7 @@
 -- The numbers of an instruction of a line.
 use Rattle.std.specs.Prelude.{◌≡◌, ◌⊎◌, List, Ok, map}
 use Rattle.std.specs.List.{filter_map}
-use Rattle.asm_scan.specs.Tokens.{Lexeme}
+use Rattle.asm_line.specs.Tokens.{Lexeme}
 use Rattle.z80_instr.specs.declared.Instr.{Instr}
 use Rattle.z80_form.specs.declared.mnemonic.Mnemonic.{Mnemonic}
 use Rattle.z80_form.specs.declared.field.Field.{Field}

@@ -1,14 +1,14 @@
 -- Operands: how tokens are cut into them, and what each is.
 -- In words: docs/LANGUAGE.md, section 'Instructions'.
 use Rattle.std.specs.Prelude.{ℕ, ◌-◌, ◌==◌, ◌&&◌, Bool, true, false, List, [], ◌∷◌, Option, Some, None, Result, Ok, Err, if◌then◌else◌, length, take, drop}
-use Rattle.asm_scan.specs.declared.token.Kind.{Kind}
-use Rattle.asm_scan.specs.declared.token.Mark.{Mark}
-use Rattle.asm_scan.specs.Tokens.{Lexeme}
+use Rattle.asm_line.specs.declared.token.Kind.{Kind}
+use Rattle.asm_line.specs.declared.token.Mark.{Mark}
+use Rattle.asm_line.specs.Tokens.{Lexeme}
 use Rattle.asm_parse.specs.declared.fault.ExprFault.{ExprFault}
 use Rattle.asm_parse.specs.Parsed.{parsed}
 use Rattle.common.specs.Results.{◌>>=◌}
 use Rattle.asm_line.specs.Commas.{open_behind}
-use Rattle.asm_line.specs.Tokens.{is_name, is_comma}
+use Rattle.asm_line.specs.Single.{is_name, is_comma}
 use Rattle.z80_instr.specs.declared.IndexRegister.{IndexRegister}
 use Rattle.z80_form.specs.declared.name.Name.{Name}
 use Rattle.z80_form.specs.Named.{name_named}

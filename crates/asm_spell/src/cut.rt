@@ -1,15 +1,14 @@
 //! Cuts the tokens after a word into operands, which commas outside of parentheses separate.
 
 ghost use Rattle.std.specs.Prelude.{◌≡◌, ◌≤◌, ◌<◌, ◌∷◌, List, Result, Some, IfSome, length, map};
-ghost use Rattle.asm_scan.specs.Tokens.{Lexeme, lexemes};
+ghost use Rattle.asm_line.specs.Tokens.{Lexeme, lexemes};
 ghost use Rattle.asm_spell.specs.declared.fault.StmtFault.{StmtFault};
 ghost use Rattle.asm_spell.specs.Faults.{Gives, each};
 ghost use Rattle.asm_spell.specs.Operands.{closed_by_last, is_memory, operands, pieces};
 ghost use Rattle.asm_spell.specs.Private.Cutting.{first_len, left};
 
 use crate::fault::StmtFault;
-use asm_line::{is_comma, open_behind};
-use asm_scan::Token;
+use asm_line::{Token, is_comma, open_behind};
 use std::alloc::Global;
 
 /// A type that can be read from the tokens of one operand.

@@ -5,7 +5,7 @@ ghost use Rattle.std.specs.Option.{option_map};
 ghost use Rattle.std.specs.List.{list_any};
 ghost use Rattle.std.specs.Map.{lookup};
 ghost use Rattle.std.specs.Str.{str_eq_ignore_ascii_case};
-ghost use Rattle.asm_scan.specs.Tokens.{lexemes};
+ghost use Rattle.asm_line.specs.Tokens.{lexemes};
 ghost use Rattle.asm_spell.specs.Faults.{Gives};
 ghost use Rattle.asm_spell.specs.Line.{body_of, listed_names, name_texts, value_of};
 ghost use Rattle.asm_spell.specs.Directives.{content, directive, end, end_body, is_empty_text, nameless, names_listed, of_bytes, of_nothing, of_origin, of_space, of_words, text_alone, text_by};
@@ -16,8 +16,8 @@ use crate::cut::{Operand, each};
 use crate::fault::StmtFault;
 use crate::line::{Body, Value};
 use crate::operand::{expression, is_one_name};
+use asm_line::{Kind, Token};
 use asm_parse::{KeptName, Tree};
-use asm_scan::{Kind, Token};
 use std::alloc::{AllocError, Global};
 
 /// A directive.

@@ -3,7 +3,7 @@
 ghost use Rattle.std.specs.Prelude.{◌≡◌, ◌∷◌, [], IfOk, Some};
 ghost use Rattle.std.specs.List.{cons_option};
 ghost use Rattle.std.specs.Option.{option_and_then, option_map};
-ghost use Rattle.asm_scan.specs.Tokens.{lexemes};
+ghost use Rattle.asm_line.specs.Tokens.{lexemes};
 ghost use Rattle.z80_form.specs.Numbers.{field_of};
 ghost use Rattle.asm_parse.specs.Few.{all};
 ghost use Rattle.asm_spell.specs.Faults.{Gives, each};
@@ -18,8 +18,8 @@ use crate::fault::StmtFault;
 use crate::jump::{Jump, jump_of};
 use crate::line::Body;
 use crate::operand::Written;
+use asm_line::Token;
 use asm_parse::{Few, Item, TermView, Tree};
-use asm_scan::Token;
 use std::alloc::{AllocError, Global};
 use z80_form::{Field, Mnemonic, field_of};
 use z80_instr::Instr;

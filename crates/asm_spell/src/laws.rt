@@ -1,9 +1,9 @@
 //! Laws about statements, as functions that do nothing. A caller calls one to use its clauses.
 
 ghost use Rattle.std.specs.Prelude.{◌≡◌, ◌≤◌, ◌↔◌, length, true, ◌∷◌, ◌++◌, [], ℕ, List, Option, Some, Ok, All};
-ghost use Rattle.asm_scan.specs.declared.scan.TheConstants.{LONGEST_LINE};
-ghost use Rattle.asm_scan.specs.Tokens.{Lexeme, doubled};
-ghost use Rattle.asm_scan.specs.Scanned.{scanned};
+ghost use Rattle.asm_line.specs.declared.scan.TheConstants.{LONGEST_LINE};
+ghost use Rattle.asm_line.specs.Tokens.{Lexeme, doubled};
+ghost use Rattle.asm_line.specs.Scanned.{scanned};
 ghost use Rattle.asm_line.specs.Forms.{form};
 ghost use Rattle.z80_instr.specs.declared.Instr.{Instr};
 ghost use Rattle.z80_form.specs.declared.field.Field.{Field};
@@ -41,7 +41,7 @@ pub fn names()
     ensures targets { (line : List ℕ) (tokens : List Lexeme) (found : Line) → scanned line ≡ Ok tokens → spelled tokens ≡ Ok found →
         All IsDefinable (line_targets found) }
 {
-    asm_scan::laws::scanned();
+    asm_line::laws::scanned();
     asm_parse::laws::parsed();
 }
 
@@ -54,7 +54,7 @@ pub fn few()
     ensures data { (line : List ℕ) (tokens : List Lexeme) (label : Option (List ℕ)) (body : Body) → scanned line ≡ Ok tokens →
         spelled tokens ≡ Ok (Statement label (Some body)) → IsFew body }
 {
-    asm_scan::laws::scanned();
+    asm_line::laws::scanned();
     asm_parse::laws::parsed();
 }
 

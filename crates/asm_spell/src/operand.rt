@@ -1,15 +1,15 @@
 //! Parses the operands of instructions.
 
 ghost use Rattle.std.specs.Prelude.{◌≡◌, ◌∷◌, None};
-ghost use Rattle.asm_scan.specs.Tokens.{lexeme, lexemes};
+ghost use Rattle.asm_line.specs.Tokens.{lexeme, lexemes};
 ghost use Rattle.asm_spell.specs.Faults.{Gives};
 ghost use Rattle.asm_spell.specs.Operands.{alone, parsed_expression, indexed, index_named, is_one_name, is_sign_kind, memory_operand, name_alone, token_name, named_or, pointed, pointed_or, with_expression, written_operand};
 ghost use Rattle.asm_spell.specs.Private.Cutting.{holds};
 
 use crate::cut::{Operand, is_memory};
 use crate::fault::StmtFault;
+use asm_line::{Kind, Mark, Token};
 use asm_parse::{Tree, parse};
-use asm_scan::{Kind, Mark, Token};
 use std::alloc::Global;
 use z80_form::{Form, Name, Pointed, name_of};
 use z80_instr::IndexRegister;

@@ -2,7 +2,7 @@
 
 ghost use Rattle.std.specs.Prelude.{◌≡◌, IfErr, IfOk, None, Some};
 ghost use Rattle.std.specs.Option.{option_map};
-ghost use Rattle.asm_scan.specs.Tokens.{lexemes};
+ghost use Rattle.asm_line.specs.Tokens.{lexemes};
 ghost use Rattle.std.specs.List.{list_any};
 ghost use Rattle.common.specs.Words.{upper, is_reserved};
 ghost use Rattle.asm_spell.specs.Faults.{Gives, IsOfTokens};
@@ -14,9 +14,8 @@ use crate::fault::StmtFault;
 use crate::instruction::instruction;
 use crate::line::{Body, Line};
 use crate::operand::expression;
-use asm_line::{Form, Head, form_of};
+use asm_line::{Form, Head, Token, form_of};
 use asm_parse::KeptName;
-use asm_scan::Token;
 use common::is_reserved;
 use std::alloc::{AllocError, Global};
 use z80_form::mnemonic_of;

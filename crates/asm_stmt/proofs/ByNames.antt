@@ -20,7 +20,7 @@ use Rattle.asm_spell.specs.Line.{Body, Value}
 use Rattle.z80_form.specs.declared.field.Field.{Field}
 use Rattle.z80_instr.specs.declared.Instr.{Instr}
 use Rattle.z80_instr.specs.declared.ShortCond.{ShortCond}
-use Rattle.zmo_module.specs.declared.hole.Width.{Width}
+use Rattle.zmo_object.specs.declared.module.hole.Width.{Width}
 use Rattle.asm_stmt.specs.declared.cell.Cell.{Cell}
 use Rattle.asm_stmt.specs.declared.cell.Filling.{Filling}
 use Rattle.asm_stmt.specs.Fields.{as_stmt, byte, distance_or, field_filling, fixed, settled_in, word_filling}

@@ -11,7 +11,7 @@ use Rattle.z80_form.specs.Numbers.{with_number, with_numbers}
 use Rattle.asm_stmt.specs.declared.cell.Filling.{Filling}
 use Rattle.asm_stmt.specs.declared.code.Coded.{Coded}
 use Rattle.asm_stmt.specs.Cells.{hole, is_told, number_or_0}
-use Rattle.zmo_module.specs.Holes.{width_size}
+use Rattle.zmo_object.specs.Holes.{width_size}
 use Rattle.asm_stmt.specs.Made.{Fillings, code_hole, field_width}
 use Rattle.asm_stmt.specs.Private.Laying.{Codes}
 use Rattle.asm_stmt.proofs.Laying.{and_true}

@@ -3,9 +3,9 @@ use Rattle.std.proofs.Common.{◌≡◌, ◌<◌, ℕ, suc, ◌+◌, ◌%◌, sl
 use Rattle.std.proofs.lemmas.List.Concat.{flat_map-append}
 use Rattle.std.proofs.lemmas.List.Folds.{list_all-append}
 use Rattle.asm_stmt.specs.declared.cell.Cell.{Cell}
-use Rattle.zmo_module.specs.declared.hole.Width.{Width}
+use Rattle.zmo_object.specs.declared.module.hole.Width.{Width}
 use Rattle.asm_stmt.specs.Cells.{all_told, bytes, cell_bytes, hole, holes, is_told, number_or_0, written}
-use Rattle.zmo_module.specs.Holes.{width_size}
+use Rattle.zmo_object.specs.Holes.{width_size}
 use Rattle.asm_stmt.specs.declared.data.Laid.{Laid}
 use Rattle.asm_stmt.specs.Private.Laying.{Lays}
 use Rattle.asm_stmt.specs.Made.{text_cell}

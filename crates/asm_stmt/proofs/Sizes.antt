@@ -16,7 +16,7 @@ use Rattle.asm_spell.specs.declared.fault.StmtFault.{StmtFault}
 use Rattle.asm_spell.specs.Faults.{each}
 use Rattle.asm_spell.specs.Line as line
 use Rattle.asm_stmt.specs.declared.cell.Cell.{Cell}
-use Rattle.zmo_module.specs.declared.hole.Width.{Width}
+use Rattle.zmo_object.specs.declared.module.hole.Width.{Width}
 use Rattle.asm_stmt.specs.Cells.{bytes, cell_bytes, number_or_0}
 use Rattle.asm_stmt.specs.Fields as field
 use Rattle.asm_stmt.specs.Made as made

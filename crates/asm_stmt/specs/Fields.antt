@@ -4,13 +4,12 @@ use Rattle.std.specs.Prelude.{◌≡◌, ℕ, ◌+◌, ◌%◌, Bool, true, fals
 use Rattle.common.specs.Results.{◌>>=◌}
 use Rattle.asm_parse.specs.declared.fault.ExprFault.{ExprFault}
 use Rattle.asm_parse.specs.declared.item.Item.{Item}
-use Rattle.asm_expr.specs.Below.{Atom}
+use Rattle.asm_expr.specs.Below.{Atom, source}
 use Rattle.asm_expr.specs.declared.answer.Settled.{Settled}
 use Rattle.asm_expr.specs.declared.unknown.Unknown.{Unknown}
 use Rattle.asm_expr.specs.declared.here.Offset.{Offset}
 use Rattle.asm_expr.specs.Names.{Table}
 use Rattle.asm_expr.specs.Offsets.{offset}
-use Rattle.asm_expr.specs.Below.{source}
 use Rattle.asm_expr.specs.Settling.{fault, settled}
 use Rattle.z80_form.specs.declared.field.Field.{Field}
 use Rattle.z80_form.specs.Numbers.{allows}
@@ -18,7 +17,7 @@ use Rattle.asm_spell.specs.declared.fault.StmtFault.{StmtFault}
 use Rattle.asm_spell.specs.Faults.{of_expression}
 use Rattle.asm_spell.specs.Line.{ExpressionItems}
 use Rattle.asm_stmt.specs.declared.cell.Filling.{Filling}
-use Rattle.zmo_module.specs.Holes.{ends_in_byte}
+use Rattle.zmo_object.specs.Holes.{ends_in_byte}
 
 -- an expression that is just one number
 abbrev pub number : List (Item Atom) → Option ℕ

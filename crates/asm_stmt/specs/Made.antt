@@ -26,12 +26,12 @@ use Rattle.asm_spell.specs.Line as line
 use Rattle.asm_spell.specs.Line.{Body, ExpressionItems, Value}
 use Rattle.asm_stmt.specs.declared.cell.Cell.{Cell}
 use Rattle.asm_stmt.specs.declared.cell.Filling.{Filling}
-use Rattle.zmo_module.specs.declared.hole.Hole.{Hole}
+use Rattle.zmo_object.specs.declared.module.hole.Hole.{Hole}
 use Rattle.asm_stmt.specs.declared.piece.Made as answer
 use Rattle.asm_stmt.specs.declared.piece.Piece as piece
-use Rattle.zmo_module.specs.declared.hole.Width.{Width}
+use Rattle.zmo_object.specs.declared.module.hole.Width.{Width}
 use Rattle.asm_stmt.specs.Cells.{all_told, bytes, hole, holes, is_told, number_or_0}
-use Rattle.zmo_module.specs.Holes.{width_size}
+use Rattle.zmo_object.specs.Holes.{width_size}
 use Rattle.asm_stmt.specs.Fields.{field_filling, fixed, is_number_unknown, number, settled_in}
 
 -- what a statement is in a program: bytes with fix-ups, a relaxable jump to a ref, a jump to a ref that is always short, or space

@@ -1,7 +1,7 @@
 //! Fields, and what fills them. Only definitions use these types; no call answers them.
 
 use asm_expr::Expr;
-use zmo_module::Width;
+use zmo_object::Width;
 
 /// What fills a field.
 #[derive(Drop)]

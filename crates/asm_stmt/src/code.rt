@@ -5,7 +5,7 @@ ghost use Rattle.z80_form.specs.declared.field.Field.{Field};
 ghost use Rattle.asm_expr.specs.Names.{found};
 ghost use Rattle.asm_spell.specs.Faults.{Gives};
 ghost use Rattle.asm_stmt.specs.Made.{Fillings, IsDefined, code, coded, jump_by, long_jump, made_of, ref_of, short_by, widened, field_width};
-ghost use Rattle.zmo_module.specs.Holes.{width_size};
+ghost use Rattle.zmo_object.specs.Holes.{width_size};
 ghost use Rattle.asm_stmt.specs.Fields.{IsAllowed};
 ghost use Rattle.asm_stmt.specs.Private.Laying.{Codes};
 
@@ -16,10 +16,9 @@ use crate::piece::{Made, Piece};
 use asm_expr::{Meaning, Names, Tree};
 use asm_spell::{Branch, StmtFault};
 use std::alloc::{AllocError, Global};
-use z80_encode::{encode, size};
 use z80_form::{Field, with_number};
-use z80_instr::{Cond, Instr, ShortCond};
-use zmo_module::{Hole, Width};
+use z80_instr::{Cond, Instr, ShortCond, encode, size};
+use zmo_object::{Hole, Width};
 
 /// Answers how many bytes a number takes, if its value may depend on addresses.
 fn width_of(field: Field) -> Width

@@ -15,7 +15,7 @@ use asm_expr::{Names, Tree};
 use asm_spell::{StmtFault, Value};
 use std::alloc::{AllocError, Global};
 use z80_form::Field;
-use zmo_module::{Hole, Width};
+use zmo_object::{Hole, Width};
 
 /// Answers the number that a field has in the object file: 0 if its value depends on addresses.
 pub(crate) fn number_or_0(filling: &Filling) -> u16

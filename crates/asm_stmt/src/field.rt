@@ -2,11 +2,10 @@
 
 ghost use Rattle.std.specs.Prelude.{◌≡◌, ◌∷◌, [], IfOk, true};
 ghost use Rattle.std.specs.List.{AllPass};
-ghost use Rattle.asm_expr.specs.Below.{source};
+ghost use Rattle.asm_expr.specs.Below.{source, Atom};
 ghost use Rattle.asm_expr.specs.Settling.{is_known};
 ghost use Rattle.asm_spell.specs.Faults.{Gives};
 ghost use Rattle.asm_parse.specs.declared.item.Item.{Item};
-ghost use Rattle.asm_expr.specs.Below.{Atom};
 ghost use Rattle.asm_expr.specs.declared.answer.Settled.{Settled};
 ghost use Rattle.asm_stmt.specs.Fields.{IsAllowed, byte, distance_filling, field_filling, fixed, is_number_unknown, number, settled_in, word_filling};
 ghost use Rattle.asm_stmt.specs.Private.Filled.{filled_by};
@@ -20,7 +19,7 @@ use asm_expr::{
 use asm_spell::StmtFault;
 use std::alloc::Global;
 use z80_form::Field;
-use zmo_module::ends_in_byte;
+use zmo_object::ends_in_byte;
 
 /// Answers the number if the items are just one number.
 fn number_of(items: &[Item<Atom>]) -> Option<u16>

@@ -24,7 +24,7 @@ pub fn few()
     ensures { (t : Table) (b : Body) (p : Piece) → IsFew b → made t b ≡ Ok (Some_piece p) → TakesFew p }
 {
     z80_form::laws::kept();
-    z80_encode::laws::length();
+    z80_instr::laws::length();
 }
 
 /// What a statement makes depends only on what its names stand for, on `$` and on the statements of the module.

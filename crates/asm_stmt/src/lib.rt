@@ -22,4 +22,4 @@ pub use defined::are_defined;
 pub use piece::{Made, Piece};
 pub use settling::settle;
 pub use size::size_of;
-pub use zmo_module::{Hole, Width};
+pub use zmo_object::{Hole, Width};

@@ -1,7 +1,7 @@
 //! The pieces of a program.
 
 use z80_instr::{Branch, ShortCond};
-use zmo_module::Hole;
+use zmo_object::Hole;
 
 /// What one statement is in a program.
 #[derive(Debug, Drop)]

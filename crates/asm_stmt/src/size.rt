@@ -13,7 +13,7 @@ use crate::space::{number_in, space_size};
 use asm_expr::{Names, Statement, Tree, is_defined, laws};
 use asm_spell::{Body, StmtFault, Value};
 use std::alloc::{AllocError, Global};
-use z80_encode::size;
+use z80_instr::size;
 
 /// Answers the size of a JP to a name, which has a ref if it is a label or an external.
 fn jump_sized(place: Option<u16>) -> Statement

@@ -2,18 +2,18 @@
 use Rattle.std.proofs.Common.{◌≡◌, ◌⊎◌, inl, inr, ◌∙◌, ◌&&◌, sym, ap, refl, subst, ℕ, true, false, Bool, List, [], ◌∷◌, ◌++◌, Some, None, Result, Ok, Err, codes, get_or, take}
 use Rattle.std.specs.List.{Contains, filter, list_any}
 use Rattle.std.proofs.lemmas.Bool.{cases_Bool, cond-false, cond-true, false≢true, or_parts}
-use Rattle.asm_scan.specs.declared.fault.ScanFault.{ScanFault}
-use Rattle.asm_scan.specs.declared.token.Kind.{Kind}
-use Rattle.asm_scan.specs.declared.token.Mark.{Mark}
-use Rattle.asm_scan.specs.Lines.{BeginsTokens, Scans}
-use Rattle.asm_scan.specs.Scanned.{scanned}
-use Rattle.asm_scan.specs.Tokens.{IsToken, Lexeme}
-use Rattle.asm_scan.proofs.Cuts.{scans}
+use Rattle.asm_line.specs.declared.fault.ScanFault.{ScanFault}
+use Rattle.asm_line.specs.declared.token.Kind.{Kind}
+use Rattle.asm_line.specs.declared.token.Mark.{Mark}
+use Rattle.asm_line.specs.Lines.{BeginsTokens, Scans}
+use Rattle.asm_line.specs.Scanned.{scanned}
+use Rattle.asm_line.specs.Tokens.{IsToken, Lexeme}
+use Rattle.asm_line.proofs.Cuts.{scans}
 use Rattle.asm_line.specs.Forms.{form}
-use Rattle.asm_line.specs.Tokens.{is_colon, is_colon_kind, is_name, is_word}
+use Rattle.asm_line.specs.Single.{is_colon, is_colon_kind, is_name, is_word}
 use Rattle.asm_text.specs.declared.matching.Role.{Role}
-use Rattle.asm_replace.specs.Fronts.{AreLeft, Begins, goes_on}
-use Rattle.asm_replace.specs.Replaced.{ReplacementTable, replaced_tokens}
+use Rattle.asm_line.specs.Replacing.Fronts.{AreLeft, Begins, goes_on}
+use Rattle.asm_line.specs.Replacing.Replaced.{ReplacementTable, replaced_tokens}
 use Rattle.asm_text.specs.declared.signs.Sign.{Sign}
 use Rattle.asm_text.specs.declared.varying.Varying.{Varying}
 use Rattle.asm_text.specs.Calls.{replaced_by, replaced_line}

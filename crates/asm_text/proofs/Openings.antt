@@ -2,9 +2,9 @@
 use Rattle.std.proofs.Common.{◌≡◌, ◌<◌, ◌+◌, ◌-◌, ◌∙◌, sym, ap, refl, ℕ, suc, List, [], ◌∷◌, ◌++◌, Option, Some, None, Vec, take, drop, length, get_or, arith, append_assoc, append-nil}
 use Rattle.std.specs.Global.{Global}
 use Rattle.std.proofs.lemmas.List.{drop_more}
-use Rattle.asm_scan.specs.Tokens.{Lexeme}
-use Rattle.asm_replace.specs.Pieces.{after_first_token, behind_all}
-use Rattle.asm_replace.specs.Views as replaced
+use Rattle.asm_line.specs.Tokens.{Lexeme}
+use Rattle.asm_line.specs.Replacing.Pieces.{after_first_token, behind_all}
+use Rattle.asm_line.specs.Replacing.Views as replaced
 use Rattle.asm_text.specs.declared.span.Span.{Span}
 use Rattle.asm_text.specs.declared.open.Local.{Local}
 use Rattle.asm_text.specs.Calls.{Opened, opened, with_locals}

@@ -7,13 +7,13 @@ use Rattle.std.proofs.lemmas.Bool.{cases_Bool, cond-false, cond-true, eqb-true, 
 use Rattle.std.proofs.lemmas.Bool.Decides.{nat_tests}
 use Rattle.std.proofs.lemmas.List.Elements.{All-cons, All-head, All-nil, All-tail}
 use Rattle.std.proofs.lemmas.List.Sums.{take_while-cons}
-use Rattle.asm_scan.specs.declared.token.Kind.{Kind}
-use Rattle.asm_scan.specs.declared.token.Mark.{Mark}
-use Rattle.asm_scan.specs.Classes.{begins_name, continues_name, is_blank, is_quote}
-use Rattle.asm_scan.specs.Lines.{BeginsToken}
-use Rattle.asm_scan.specs.Tokens.{BeginsWithout, IsName, IsNumber, IsToken, Lexeme, doubled, mark_byte}
-use Rattle.asm_replace.proofs.Fronts.{whole_line}
-use Rattle.asm_replace.specs.Pieces.{gap}
+use Rattle.asm_line.specs.declared.token.Kind.{Kind}
+use Rattle.asm_line.specs.declared.token.Mark.{Mark}
+use Rattle.asm_line.specs.Classes.{begins_name, continues_name, is_blank, is_quote}
+use Rattle.asm_line.specs.Lines.{BeginsToken}
+use Rattle.asm_line.specs.Tokens.{BeginsWithout, IsName, IsNumber, IsToken, Lexeme, doubled, mark_byte}
+use Rattle.asm_line.proofs.Replaced.Fronts.{whole_line}
+use Rattle.asm_line.specs.Replacing.Pieces.{gap}
 use Rattle.asm_text.specs.declared.signs.Sign.{Sign}
 use Rattle.asm_text.specs.Signs.{is_sign}
 use Rattle.asm_text.proofs.Words.{afresh, empty, ended, found, found_end, found_out, is_mark, name_letter, out, out_from, run_on}

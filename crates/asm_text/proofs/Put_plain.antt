@@ -11,19 +11,19 @@ use Rattle.std.proofs.lemmas.Str.Parse.{digit_from_value}
 use Rattle.std.proofs.lemmas.Bool.{cases_Bool, cond-false, cond-true, false≢true, not_from_false, or_from, or_left, or_parts, or_right}
 use Rattle.std.proofs.lemmas.List.Elements.{Contains-append_right}
 use Rattle.std.proofs.lemmas.List.Folds.{list_any-append}
-use Rattle.asm_scan.specs.declared.fault.ScanFault.{ScanFault}
-use Rattle.asm_scan.specs.declared.token.Kind.{Kind}
-use Rattle.asm_scan.specs.Classes.{begins_name, continues_name}
-use Rattle.asm_scan.specs.Lines.{BeginsTokens, Scans}
-use Rattle.asm_scan.specs.Scanned.{scanned}
-use Rattle.asm_scan.specs.Tokens.{BeginsWithout, IsName, IsNumber, IsToken, Lexeme}
-use Rattle.asm_scan.proofs.Cuts.{scans}
+use Rattle.asm_line.specs.declared.fault.ScanFault.{ScanFault}
+use Rattle.asm_line.specs.declared.token.Kind.{Kind}
+use Rattle.asm_line.specs.Classes.{begins_name, continues_name}
+use Rattle.asm_line.specs.Lines.{BeginsTokens, Scans}
+use Rattle.asm_line.specs.Scanned.{scanned}
+use Rattle.asm_line.specs.Tokens.{BeginsWithout, IsName, IsNumber, IsToken, Lexeme}
+use Rattle.asm_line.proofs.Cuts.{scans}
 use Rattle.common.specs.Words.{upper}
-use Rattle.asm_line.specs.Tokens.{is_name}
-use Rattle.asm_replace.proofs.Fronts.{whole_line}
-use Rattle.asm_replace.proofs.Lines.{after_token}
-use Rattle.asm_replace.specs.Pieces.{gap, after_first_token}
-use Rattle.asm_replace.specs.Replaced.{SaySame, ReplacementTable, arguments_of, local_name, local_names, replaced_tokens, swapped}
+use Rattle.asm_line.specs.Single.{is_name}
+use Rattle.asm_line.proofs.Replaced.Fronts.{whole_line}
+use Rattle.asm_line.proofs.Replaced.Lines.{after_token}
+use Rattle.asm_line.specs.Replacing.Pieces.{gap, after_first_token}
+use Rattle.asm_line.specs.Replacing.Replaced.{SaySame, ReplacementTable, arguments_of, local_name, local_names, replaced_tokens, swapped}
 use Rattle.asm_text.specs.Calls.{replaced_by, replaced_line}
 use Rattle.asm_text.specs.Lines.{tokens_in}
 use Rattle.asm_text.specs.declared.signs.Sign.{Sign}

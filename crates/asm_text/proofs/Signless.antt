@@ -3,15 +3,15 @@ use Rattle.std.proofs.Common.{◌≡◌, ◌∙◌, sym, ap, refl, ℕ, Bool, tr
 use Rattle.std.specs.Str.{str_eq_ignore_ascii_case}
 use Rattle.std.proofs.lemmas.Bool.{cases_Bool, cond-false, cond-true, false≢true, or_parts}
 use Rattle.asm_text.specs.declared.matching.Role.{Role}
-use Rattle.asm_scan.specs.declared.fault.ScanFault.{ScanFault}
-use Rattle.asm_scan.specs.declared.token.Kind.{Kind}
-use Rattle.asm_scan.specs.Tokens.{IsToken, Lexeme}
-use Rattle.asm_scan.specs.Lines.{BeginsTokens, Scans}
-use Rattle.asm_scan.specs.Scanned.{scanned}
-use Rattle.asm_scan.proofs.Cuts.{scans}
+use Rattle.asm_line.specs.declared.fault.ScanFault.{ScanFault}
+use Rattle.asm_line.specs.declared.token.Kind.{Kind}
+use Rattle.asm_line.specs.Tokens.{IsToken, Lexeme}
+use Rattle.asm_line.specs.Lines.{BeginsTokens, Scans}
+use Rattle.asm_line.specs.Scanned.{scanned}
+use Rattle.asm_line.proofs.Cuts.{scans}
 use Rattle.asm_line.specs.declared.forms.BlockWord.{BlockWord}
 use Rattle.asm_line.specs.Forms.{Form, block_named, form, head_of_block, headed, labelled, worded}
-use Rattle.asm_line.specs.Tokens.{is_colon, is_name, is_name_kind, is_word}
+use Rattle.asm_line.specs.Single.{is_colon, is_name, is_name_kind, is_word}
 use Rattle.asm_text.specs.Roles.{role_of_head}
 use Rattle.asm_text.specs.Lines.{form_by, form_of, tokens_in}
 use Rattle.asm_text.specs.declared.signs.Sign.{Sign}

@@ -6,21 +6,21 @@ use Rattle.std.specs.Map.{lookup}
 use Rattle.std.specs.Str.{bytes_eq}
 use Rattle.std.proofs.lemmas.Bool.{cases_Bool, cases_eq, false≢true}
 use Rattle.std.proofs.lemmas.List.Elements.{All-cons, All-nil, Contains-append_left, Contains-push}
-use Rattle.asm_scan.specs.declared.fault.ScanFault.{ScanFault}
-use Rattle.asm_scan.specs.Lines.{Cut, Scans}
-use Rattle.asm_scan.specs.Scanned.{scanned}
-use Rattle.asm_scan.specs.Tokens.{Lexeme}
-use Rattle.asm_scan.proofs.Cuts.{scans}
+use Rattle.asm_line.specs.declared.fault.ScanFault.{ScanFault}
+use Rattle.asm_line.specs.Lines.{Cut, Scans}
+use Rattle.asm_line.specs.Scanned.{scanned}
+use Rattle.asm_line.specs.Tokens.{Lexeme}
+use Rattle.asm_line.proofs.Cuts.{scans}
 use Rattle.common.specs.Words.{upper}
 use Rattle.asm_line.specs.Forms.{Form, form, headed, labelled, worded}
-use Rattle.asm_line.specs.Tokens.{is_colon, is_name, is_word}
+use Rattle.asm_line.specs.Single.{is_colon, is_name, is_word}
 use Rattle.asm_text.specs.declared.matching.Role.{Role}
-use Rattle.asm_replace.specs.Fronts.{AreLeft, Begins, IsLeft, goes_on}
-use Rattle.asm_replace.specs.declared.names.Names.{Names}
-use Rattle.asm_replace.specs.declared.names.Place.{Place}
-use Rattle.asm_replace.specs.declared.whole_names.Replacements.{Replacements}
-use Rattle.asm_replace.specs.Replaced.{ReplacementTable, replaced_tokens}
-use Rattle.asm_replace.specs.Views.{in_call, names_seen, replacement_table, replacement_at, texts as texts_of}
+use Rattle.asm_line.specs.Replacing.Fronts.{AreLeft, Begins, IsLeft, goes_on}
+use Rattle.asm_line.specs.declared.replacing.names.Names.{Names}
+use Rattle.asm_line.specs.declared.replacing.names.Place.{Place}
+use Rattle.asm_line.specs.declared.replacing.whole_names.Replacements.{Replacements}
+use Rattle.asm_line.specs.Replacing.Replaced.{ReplacementTable, replaced_tokens}
+use Rattle.asm_line.specs.Replacing.Views.{in_call, names_seen, replacement_table, replacement_at, texts as texts_of}
 use Rattle.asm_text.specs.Roles.{role_of_head}
 use Rattle.asm_text.specs.declared.call.Call.{Call}
 use Rattle.asm_text.specs.declared.open.Opened.{Opened}
@@ -34,7 +34,7 @@ use Rattle.asm_text.specs.Lines.{form_by, form_of, heard, tokens_in}
 use Rattle.asm_text.specs.Plain.{ArePlain}
 use Rattle.asm_text.specs.Private.Varying.{asked, asked_labelled, asked_of, is_held, may_vary, with_next}
 
--- What two laws of `asm_replace` say: a line none of whose names is replaced stays as it is, and the first tokens stay if no name
+-- What two laws of `asm_line` say: a line none of whose names is replaced stays as it is, and the first tokens stay if no name
 -- in them is.
 abbrev pub Leaves : Type 0
 Leaves = (table : ReplacementTable) (line : List ℕ) (tokens : List Lexeme) → Cut line tokens → All (λ token. is_name token ≡ true → lookup (bytes_eq (upper token.text)) table ≡ None) tokens → replaced_tokens table line tokens ≡ line

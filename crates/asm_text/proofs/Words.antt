@@ -9,8 +9,8 @@ use Rattle.std.proofs.lemmas.List.{append-nil}
 use Rattle.std.proofs.lemmas.List.Elements.{All-head, All-tail}
 use Rattle.std.proofs.lemmas.List.Splits.{slice_split-cons_no, slice_split-cons_yes}
 use Rattle.std.proofs.lemmas.Slice.Eq.{bytes_eq-Decides}
-use Rattle.asm_scan.specs.Classes.{begins_name, continues_name}
-use Rattle.asm_scan.specs.Tokens.{BeginsWithout}
+use Rattle.asm_line.specs.Classes.{begins_name, continues_name}
+use Rattle.asm_line.specs.Tokens.{BeginsWithout}
 use Rattle.asm_text.specs.declared.signs.Sign.{Sign}
 use Rattle.asm_text.specs.Signs.{has_sign, is_sign, words}
 

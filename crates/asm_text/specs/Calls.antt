@@ -1,14 +1,14 @@
 -- A call of a macro: the lines of its body with names replaced.
 -- In words: docs/LANGUAGE.md, section 'Macros'.
 use Rattle.std.specs.Prelude.{ℕ, ◌-◌, List, [], ◌∷◌, ◌++◌, Option, Some, None, length, map, take}
-use Rattle.asm_scan.specs.Tokens.{Lexeme}
+use Rattle.asm_line.specs.Tokens.{Lexeme}
 use Rattle.asm_line.specs.declared.forms.BlockWord.{BlockWord}
 use Rattle.asm_line.specs.Forms.{Form, Head}
 use Rattle.asm_line.specs.Forms as line
 use Rattle.asm_line.specs.Lists.{name_list}
-use Rattle.asm_replace.specs.Pieces.{gap, after_first_token, behind_all}
-use Rattle.asm_replace.specs.Replaced.{ReplacementTable, replaced_tokens, local_names, arguments_of}
-use Rattle.asm_replace.specs.Arguments.{arguments}
+use Rattle.asm_line.specs.Replacing.Pieces.{gap, after_first_token, behind_all}
+use Rattle.asm_line.specs.Replacing.Replaced.{ReplacementTable, replaced_tokens, local_names, arguments_of}
+use Rattle.asm_line.specs.Replacing.Arguments.{arguments}
 use Rattle.asm_text.specs.Lines.{Numbered, form_of, heard}
 
 -- a macro: its parameters in upper case, and the lines of its body

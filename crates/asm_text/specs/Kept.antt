@@ -4,10 +4,10 @@ use Rattle.std.specs.List.{Contains}
 use Rattle.std.specs.Map.{lookup}
 use Rattle.std.specs.Option.{option_map}
 use Rattle.std.specs.Str.{bytes_eq}
-use Rattle.asm_replace.specs.declared.names.Names.{Names}
-use Rattle.asm_replace.specs.Replaced.{SaySame, ReplacementTable, arguments_of, local_names}
-use Rattle.asm_replace.specs.Views.{in_call}
-use Rattle.asm_replace.specs.Views as replaced
+use Rattle.asm_line.specs.declared.replacing.names.Names.{Names}
+use Rattle.asm_line.specs.Replacing.Replaced.{SaySame, ReplacementTable, arguments_of, local_names}
+use Rattle.asm_line.specs.Replacing.Views.{in_call}
+use Rattle.asm_line.specs.Replacing.Views as replaced
 use Rattle.asm_text.specs.declared.call.Call.{Call}
 use Rattle.asm_text.specs.declared.call.Macro.{Macro}
 use Rattle.asm_text.specs.declared.open.Opened as open_by

@@ -1,9 +1,9 @@
 -- Lines, and the label and head with which they begin.
 use Rattle.std.specs.Prelude.{ℕ, List, [], Option, Some, None, Result, Ok, Err}
-use Rattle.asm_scan.specs.declared.fault.ScanFault.{ScanFault}
-use Rattle.asm_scan.specs.Tokens.{Lexeme}
+use Rattle.asm_line.specs.declared.fault.ScanFault.{ScanFault}
+use Rattle.asm_line.specs.Tokens.{Lexeme}
 use Rattle.asm_line.specs.Forms.{Form, Nothing, form}
-use Rattle.asm_scan.specs.Scanned.{scanned}
+use Rattle.asm_line.specs.Scanned.{scanned}
 
 -- a line, and the number that it bears
 pub record Numbered : Type 0 where

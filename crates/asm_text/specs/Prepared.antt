@@ -1,10 +1,10 @@
 -- A call of a macro that is ready for expansion.
 use Rattle.std.specs.Prelude.{◌≡◌, ◌+◌, ◌-◌, ◌∷◌, ◌++◌, [], ℕ, List, Option, Some, None, Vec, length, map, take, drop}
 use Rattle.std.specs.Global.{Global}
-use Rattle.asm_scan.specs.Tokens.{Lexeme}
-pub use Rattle.asm_replace.specs.Replaced.{SaySame}
-use Rattle.asm_replace.specs.Replaced.{ReplacementTable, arguments_of, local_names}
-use Rattle.asm_replace.specs.Views as replaced
+use Rattle.asm_line.specs.Tokens.{Lexeme}
+pub use Rattle.asm_line.specs.Replacing.Replaced.{SaySame}
+use Rattle.asm_line.specs.Replacing.Replaced.{ReplacementTable, arguments_of, local_names}
+use Rattle.asm_line.specs.Replacing.Views as replaced
 use Rattle.asm_text.specs.declared.span.Span.{Span}
 use Rattle.asm_text.specs.declared.call.Macro as kept
 use Rattle.asm_text.specs.declared.call.Call.{Call}

@@ -2,7 +2,7 @@
 use Rattle.std.specs.Prelude.{ℕ, List, [], ◌∷◌, Bool, not, ◌==◌, ◌||◌, codes}
 use Rattle.std.specs.List.{list_any, slice_split}
 use Rattle.std.specs.Str.{str_eq_ignore_ascii_case}
-use Rattle.asm_scan.specs.Classes.{continues_name}
+use Rattle.asm_line.specs.Classes.{continues_name}
 use Rattle.asm_text.specs.declared.signs.Sign.{Sign}
 
 -- the words of a text: what is between the bytes that cannot continue a name; it may be empty

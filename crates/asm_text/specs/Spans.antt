@@ -1,7 +1,7 @@
 -- The lines of a span with their numbers, as a call shows them.
 use Rattle.std.specs.Prelude.{ℕ, ◌+◌, ◌-◌, List, [], ◌∷◌, Option, Some, None, take, drop}
 use Rattle.std.specs.Option.{unwrap_or}
-use Rattle.asm_replace.specs.Replaced.{ReplacementTable}
+use Rattle.asm_line.specs.Replacing.Replaced.{ReplacementTable}
 use Rattle.asm_text.specs.declared.span.Span.{Span}
 use Rattle.asm_text.specs.Lines.{Numbered}
 use Rattle.asm_text.specs.Calls.{replaced_line}

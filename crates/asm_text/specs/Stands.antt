@@ -1,7 +1,7 @@
 -- The roles of lines as a call shows them, compared with their roles as written.
 use Rattle.std.specs.Prelude.{◌≡◌, ◌≤◌, ◌<◌, ℕ, List, [], Option, None, length, slice_index_or}
 use Rattle.asm_text.specs.declared.matching.Role.{Role}
-use Rattle.asm_replace.specs.Replaced.{ReplacementTable}
+use Rattle.asm_line.specs.Replacing.Replaced.{ReplacementTable}
 use Rattle.asm_text.specs.Lines.{form_of}
 use Rattle.asm_text.specs.Roles.{role_of_head}
 use Rattle.asm_text.specs.Spans.{shown}

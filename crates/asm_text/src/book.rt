@@ -4,7 +4,7 @@ ghost use Rattle.std.specs.Prelude.{◌≡◌, ◌≤◌, ◌-◌, ◌<◌, ℕ,
 ghost use Rattle.std.specs.Option.{option_map};
 ghost use Rattle.common.specs.declared.limits.TheConstants.{LONGEST_TEXT};
 ghost use Rattle.asm_text.specs.Nesting.Blocks.{between};
-ghost use Rattle.asm_replace.specs.Replaced.{ReplacementTable};
+ghost use Rattle.asm_line.specs.Replacing.Replaced.{ReplacementTable};
 ghost use Rattle.asm_text.specs.Kept.{IsCall};
 ghost use Rattle.asm_text.specs.Prepared.{said};
 ghost use Rattle.asm_text.specs.Roles.{roles};

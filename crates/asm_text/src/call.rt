@@ -5,7 +5,7 @@ ghost use Rattle.std.specs.Option.{option_map};
 ghost use Rattle.std.specs.Map.{lookup};
 ghost use Rattle.std.specs.Str.{bytes_eq};
 ghost use Rattle.asm_text.specs.Prepared.{macro_seen, macros_seen};
-ghost use Rattle.asm_replace.specs.Views.{texts};
+ghost use Rattle.asm_line.specs.Replacing.Views.{texts};
 ghost use Rattle.asm_text.specs.Kept.{AreNames, IsKeptMacro, VariesIn};
 
 use crate::lines::Lines;
@@ -13,7 +13,7 @@ use crate::open::{Opened, open};
 use crate::plain::Plain;
 use crate::span::Span;
 use crate::varying::{Varying, varying_of};
-use asm_replace::{Names, Replacements};
+use asm_line::{Names, Replacements};
 use common::NameKey;
 use indexmap::IndexMap;
 use std::alloc::{AllocError, Global};

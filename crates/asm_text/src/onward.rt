@@ -2,7 +2,7 @@
 
 ghost use Rattle.std.specs.Prelude.{◌≡◌, IfOk, List, Option, map, ℕ};
 ghost use Rattle.std.specs.Option.{option_map};
-ghost use Rattle.asm_replace.specs.Replaced.{ReplacementTable};
+ghost use Rattle.asm_line.specs.Replacing.Replaced.{ReplacementTable};
 ghost use Rattle.asm_text.specs.Prepared.{said};
 ghost use Rattle.asm_text.specs.Spans.{text_of};
 ghost use Rattle.asm_text.specs.Sections.Onward.{On, behind, branch, stray, stray_in, stray_or};

@@ -2,9 +2,9 @@
 
 ghost use Rattle.std.specs.Prelude.{◌≡◌, IfOk};
 ghost use Rattle.std.specs.Option.{option_map};
-ghost use Rattle.asm_scan.specs.Tokens.{lexemes};
-ghost use Rattle.asm_line.specs.Views.{head_seen};
-ghost use Rattle.asm_replace.specs.Views.{texts};
+ghost use Rattle.asm_line.specs.Tokens.{lexemes};
+ghost use Rattle.asm_line.specs.FormViews.{head_seen};
+ghost use Rattle.asm_line.specs.Replacing.Views.{texts};
 ghost use Rattle.asm_text.specs.Calls.{arguments_in, label_as_written, opened};
 ghost use Rattle.asm_text.specs.Kept.{opened_seen};
 ghost use Rattle.asm_text.specs.Private.Openings.{IsLocal, is_local};
@@ -13,9 +13,7 @@ ghost use Rattle.asm_text.specs.Prepared.{body_texts};
 use crate::lines::Lines;
 use crate::reading::heard;
 use crate::span::Span;
-use asm_line::{BlockWord, Head, form_of, names};
-use asm_replace::{after, arguments};
-use asm_scan::{Token, blank_len};
+use asm_line::{BlockWord, Head, Token, after, arguments, blank_len, form_of, names};
 use std::alloc::{AllocError, Global};
 
 /// What the first line of a body is.

@@ -1,7 +1,7 @@
 //! Arguments that contain no sign, and so give a line no new role when they replace names.
 
 ghost use Rattle.std.specs.Prelude.{◌≡◌};
-ghost use Rattle.asm_replace.specs.Views.{texts};
+ghost use Rattle.asm_line.specs.Replacing.Views.{texts};
 ghost use Rattle.asm_text.specs.Plain.{are_plain};
 
 use crate::signs::{Sign, has_sign};

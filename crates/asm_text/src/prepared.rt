@@ -1,8 +1,8 @@
 //! Making a call of a macro ready for expansion.
 
 ghost use Rattle.std.specs.Prelude.{◌≡◌, IfOk, IfSome, List, ℕ};
-ghost use Rattle.asm_scan.specs.Tokens.{lexemes};
-ghost use Rattle.asm_line.specs.Views.{form_seen};
+ghost use Rattle.asm_line.specs.Tokens.{lexemes};
+ghost use Rattle.asm_line.specs.FormViews.{form_seen};
 ghost use Rattle.asm_text.specs.Calls.{label_lines};
 ghost use Rattle.asm_text.specs.Prepared.{Prepares, label_line};
 ghost use Rattle.asm_text.specs.Kept.{IsCall, IsKeptMacro};
@@ -11,9 +11,7 @@ use crate::call::{Call, Macro};
 use crate::open::{arguments_of, label_of};
 use crate::plain::plain_to;
 use crate::span::Span;
-use asm_line::Form;
-use asm_replace::Replacements;
-use asm_scan::Token;
+use asm_line::{Form, Replacements, Token};
 use std::alloc::{AllocError, Global};
 use std::rc::Rc;
 

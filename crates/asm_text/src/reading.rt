@@ -1,10 +1,10 @@
 //! Reads lines to find their role or to show them in a call, without assembling them.
 
 ghost use Rattle.std.specs.Prelude.{◌≡◌, IfOk, OnOk, Some};
-ghost use Rattle.asm_line.specs.Views.{head_seen};
-ghost use Rattle.asm_replace.specs.Views.{replacement_table};
+ghost use Rattle.asm_line.specs.FormViews.{head_seen};
+ghost use Rattle.asm_line.specs.Replacing.Views.{replacement_table};
 ghost use Rattle.std.specs.Option.{option_map};
-ghost use Rattle.asm_scan.specs.Tokens.{lexemes};
+ghost use Rattle.asm_line.specs.Tokens.{lexemes};
 ghost use Rattle.asm_text.specs.Lines.{form_of, heard};
 ghost use Rattle.asm_text.specs.Roles.{role_of_head, is_alone};
 ghost use Rattle.asm_text.specs.Prepared.{said};
@@ -13,9 +13,7 @@ ghost use Rattle.asm_text.specs.Spans.{shown};
 use crate::call::Call;
 use crate::matching::Role;
 use crate::signs::{Sign, has_sign};
-use asm_line::{BlockWord, Head, form_of};
-use asm_replace::{Replacements, replace};
-use asm_scan::{ScanFault, Token, tokens};
+use asm_line::{BlockWord, Head, Replacements, ScanFault, Token, form_of, replace, tokens};
 use std::alloc::{AllocError, Global};
 
 /// The role of a line with this head.

@@ -5,7 +5,7 @@ ghost use Rattle.std.specs.List.{list_any};
 ghost use Rattle.asm_text.specs.Private.Pairs.{has_pair, is_pair};
 ghost use Rattle.asm_text.specs.Signs.{has_sign, is_sign, words};
 
-use asm_scan::continues_name;
+use asm_line::continues_name;
 
 /// What a line is searched for, in upper or lower case.
 #[derive(Clone, Copy, Debug)]

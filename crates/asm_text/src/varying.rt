@@ -2,10 +2,10 @@
 
 ghost use Rattle.std.specs.Prelude.{◌≡◌, ◌≤◌, ◌<◌, [], IfOk, Some, length, slice_index_or, true};
 ghost use Rattle.std.specs.List.{filter, list_any};
-ghost use Rattle.asm_scan.specs.Tokens.{lexeme, lexemes};
-ghost use Rattle.asm_replace.specs.Fronts.{goes_on};
-ghost use Rattle.asm_replace.specs.Replaced.{ReplacementTable};
-ghost use Rattle.asm_replace.specs.Views.{in_call};
+ghost use Rattle.asm_line.specs.Tokens.{lexeme, lexemes};
+ghost use Rattle.asm_line.specs.Replacing.Fronts.{goes_on};
+ghost use Rattle.asm_line.specs.Replacing.Replaced.{ReplacementTable};
+ghost use Rattle.asm_line.specs.Replacing.Views.{in_call};
 ghost use Rattle.asm_text.specs.Kept.{HasOnly, IsCall, IsVarying, Suffice};
 ghost use Rattle.asm_text.specs.Lines.{heard};
 ghost use Rattle.asm_text.specs.Prepared.{said};
@@ -18,9 +18,7 @@ use crate::matching::Role;
 use crate::reading::{heard, put_shown, role_of, role_of_head};
 use crate::signs::{Sign, has_sign};
 use crate::span::Span;
-use asm_line::{form_of, is_name};
-use asm_replace::Names;
-use asm_scan::{Kind, Mark, Token};
+use asm_line::{Kind, Mark, Names, Token, form_of, is_name};
 use std::alloc::{AllocError, Global};
 
 /// Which of the lines from `at` to the one before `end` may have another role in a call than they have as written, by their
@@ -155,8 +153,8 @@ fn places_of(
 ) -> Result<Vec<u32>, AllocError>
     ensures { IfOk result (λ places. (t : ReplacementTable) → HasOnly t (in_call names.now [] 0) → Suffice lines.now body.at body.end places.items t) }
 {
-    asm_replace::laws::unreplaced();
-    asm_replace::laws::front_stays();
+    asm_line::laws::unreplaced();
+    asm_line::laws::front_stays();
     let mut places = Vec::new(alloc);
     let mut at = body.at;
     while at < body.end && at < lines.len() {
@@ -236,7 +234,7 @@ pub(crate) fn varying_of(
     ensures varying { IfOk result (IsVarying lines.now (in_call names.now [] 0)) }
     ensures range { IfOk result (λ found. (found.at ≡ body.at) × (found.end ≡ body.end)) }
 {
-    asm_replace::laws::front_stays();
+    asm_line::laws::front_stays();
     let places = places_of(alloc, lines, names, body)?;
     let with_word = places_with(alloc, lines, names, Sign::Word, &places)?;
     let with_second = places_with(alloc, lines, names, Sign::Second, &places)?;

@@ -7,10 +7,10 @@ use Rattle.std.proofs.lemmas.Option.{slice_get_within, slice_get_past}
 use Rattle.std.proofs.lemmas.List.{drop-take, get_or_past, length-set, take_all, take-take}
 use Rattle.std.proofs.lemmas.List.Elements.{All-head, All-set, All-tail}
 use Rattle.std.proofs.lemmas.List.Sums.{sum_by-cons, sum_by-le, sum_by-take-drop, sum_by_more}
-use Rattle.certificate.specs.declared.limits.TheConstants.{MOST_BYTES, MOST_STATEMENTS}
-use Rattle.certificate.specs.declared.shape.Statement.{Statement}
-use Rattle.certificate.specs.declared.shape.Statement.TheVariants.{Jump}
-use Rattle.certificate.specs.Choice.{Choice, chosen, size_of, IsShape, size_at, bytes_before, IsJump, IsNear, IsShort, Reaches, total}
+use Rattle.cert_check.specs.declared.limits.TheConstants.{MOST_BYTES, MOST_STATEMENTS}
+use Rattle.cert_check.specs.declared.shape.Statement.{Statement}
+use Rattle.cert_check.specs.declared.shape.Statement.TheVariants.{Jump}
+use Rattle.cert_check.specs.Choice.{Choice, chosen, size_of, IsShape, size_at, bytes_before, IsJump, IsNear, IsShort, Reaches, total}
 use Rattle.cert_check.specs.Faults.{IsStillShort}
 use Rattle.cert_check.specs.Private.Following.{IsLayout, IsSize}
 

@@ -1,15 +1,15 @@
 -- What two files prove, or their first error; there is only one such answer.
 use Rattle.std.proofs.Common.{◌≡◌, ℕ, Bool, List, Result, Ok, Err, refl, ap, sym, subst, ◌∙◌, ◌⊎◌, inl, inr, length}
 use Rattle.std.proofs.Math.Path.{fun_ext}
-use Rattle.certificate.specs.declared.shape.Statement.{Statement}
-use Rattle.certificate.specs.declared.cert.Verdict.{Verdict}
-use Rattle.certificate.specs.declared.cert.Verdict.TheVariants.{Best, Range, TooLarge}
-use Rattle.certificate.specs.declared.fault.TextFault.{TextFault}
-use Rattle.certificate.specs.declared.fault.TextFault.TheVariants.{BadLine}
-use Rattle.certificate.specs.Choice.{chosen}
-use Rattle.certificate.specs.Forcing.{after}
-use Rattle.certificate.specs.Texts.{ReadsSizes, ReadsCert}
-use Rattle.certificate.specs.Accepts.{Accepts}
+use Rattle.cert_check.specs.declared.shape.Statement.{Statement}
+use Rattle.cert_check.specs.declared.cert.Verdict.{Verdict}
+use Rattle.cert_check.specs.declared.cert.Verdict.TheVariants.{Best, Range, TooLarge}
+use Rattle.cert_check.specs.declared.text_fault.TextFault.{TextFault}
+use Rattle.cert_check.specs.declared.text_fault.TextFault.TheVariants.{BadLine}
+use Rattle.cert_check.specs.Choice.{chosen}
+use Rattle.cert_check.specs.Forcing.{after}
+use Rattle.cert_check.specs.Texts.{ReadsSizes, ReadsCert}
+use Rattle.cert_check.specs.Accepts.{Accepts}
 use Rattle.cert_check.specs.Types.{CheckFault}
 use Rattle.cert_check.specs.declared.fault.CheckFault.TheVariants.{BadSizes, BadCertificate, NotForced, NotAJump, Repeated, StillShort, WrongTotal, NotOutOfRange, NoMemory}
 use Rattle.cert_check.specs.Faults.{HasCheckFault, verdict_faults, faults, FirstOf}

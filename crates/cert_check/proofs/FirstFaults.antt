@@ -3,12 +3,12 @@ use Rattle.std.proofs.Common.{◌≡◌, ℕ, zero, suc, ◌+◌, ◌-◌, ◌<�
 use Rattle.std.specs.List.{AllByRecursion, range_with_len}
 use Rattle.std.proofs.lemmas.Bool.{cases_lt, false≢true}
 use Rattle.std.proofs.lemmas.List.{take-take, get_or-take, length-take-le}
-use Rattle.certificate.specs.declared.shape.Statement.{Statement}
-use Rattle.certificate.specs.declared.cert.Verdict.{Verdict}
-use Rattle.certificate.specs.declared.cert.Verdict.TheVariants.{Best, Range, TooLarge}
-use Rattle.certificate.specs.Choice.{Choice, IsAnyJump, Fits, IsValid}
-use Rattle.certificate.specs.Forcing.{after, Misses, IsForcing}
-use Rattle.certificate.specs.Accepts.{IsVerdictOf}
+use Rattle.cert_check.specs.declared.shape.Statement.{Statement}
+use Rattle.cert_check.specs.declared.cert.Verdict.{Verdict}
+use Rattle.cert_check.specs.declared.cert.Verdict.TheVariants.{Best, Range, TooLarge}
+use Rattle.cert_check.specs.Choice.{Choice, IsAnyJump, Fits, IsValid}
+use Rattle.cert_check.specs.Forcing.{after, Misses, IsForcing}
+use Rattle.cert_check.specs.Accepts.{IsVerdictOf}
 use Rattle.cert_check.specs.Types.{CheckFault}
 use Rattle.cert_check.specs.declared.fault.CheckFault.TheVariants.{NotForced, NotAJump, Repeated, StillShort, WrongTotal, NotOutOfRange}
 use Rattle.cert_check.specs.Faults.{IsStillShort, HasCheckFault, line_faults, verdict_faults, faults, FirstOf}

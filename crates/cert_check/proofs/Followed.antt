@@ -7,10 +7,10 @@ use Rattle.std.proofs.lemmas.List.Folds.{list_any_more}
 use Rattle.std.proofs.lemmas.Option.{slice_get_within, get_or_from_slice_get}
 use Rattle.std.proofs.Math.Bool.{or-true, or-false}
 use Rattle.std.proofs.Math.Path.{fun_ext}
-use Rattle.certificate.specs.declared.shape.Statement.{Statement}
-use Rattle.certificate.specs.declared.shape.Statement.TheVariants.{Jump}
-use Rattle.certificate.specs.Choice.{chosen, IsAnyJump, IsJump, IsNear, IsShape, Fits, Reaches}
-use Rattle.certificate.specs.Forcing.{after, Misses, IsForcing}
+use Rattle.cert_check.specs.declared.shape.Statement.{Statement}
+use Rattle.cert_check.specs.declared.shape.Statement.TheVariants.{Jump}
+use Rattle.cert_check.specs.Choice.{chosen, IsAnyJump, IsJump, IsNear, IsShape, Fits, Reaches}
+use Rattle.cert_check.specs.Forcing.{after, Misses, IsForcing}
 use Rattle.cert_check.specs.Private.Following.{FailsAt, Follows, IsLayout}
 use Rattle.cert_check.proofs.Bytes.{reached, reaches}
 

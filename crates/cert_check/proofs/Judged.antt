@@ -2,10 +2,10 @@
 use Rattle.std.proofs.Common.{ℕ, ◌+◌, ◌<◌, ◌≤◌, List, length, Result, Ok, Err, None, inl, inr, arith}
 use Rattle.std.proofs.lemmas.Bool.{cases_lt}
 use Rattle.std.proofs.lemmas.Option.{slice_get_within}
-use Rattle.certificate.specs.declared.shape.Statement.{Statement}
-use Rattle.certificate.specs.declared.shape.Statement.TheVariants.{Jump, Short}
-use Rattle.certificate.specs.declared.cert.Verdict.TheVariants.{Best, TooLarge}
-use Rattle.certificate.specs.Choice.{Choice, IsNear, IsSettled, ShortsReach, place, total}
+use Rattle.cert_check.specs.declared.shape.Statement.{Statement}
+use Rattle.cert_check.specs.declared.shape.Statement.TheVariants.{Jump, Short}
+use Rattle.cert_check.specs.declared.cert.Verdict.TheVariants.{Best, TooLarge}
+use Rattle.cert_check.specs.Choice.{Choice, IsNear, IsSettled, ShortsReach, place, total}
 use Rattle.cert_check.specs.Types.{CheckFault}
 use Rattle.cert_check.specs.declared.fault.CheckFault.TheVariants.{BadSizes, BadCertificate, NotForced, NotAJump, Repeated, StillShort, WrongTotal, NotOutOfRange, NoMemory}
 use Rattle.cert_check.specs.Faults.{IsStillShort}

@@ -1,3 +1,9 @@
+pub mod Breaks
+pub mod CertTexts
+pub mod ForcingLemmas
+pub mod Numbers
+pub mod SizesRead
+pub mod SizesTexts
 pub mod Bytes
 pub mod Checked
 pub mod FirstFaults

@@ -1,9 +1,9 @@
 use Rattle.std.specs.Prelude.{ℕ, List, Result, Ok, Err}
-use Rattle.certificate.specs.declared.shape.Statement.{Statement}
-use Rattle.certificate.specs.declared.cert.Verdict.{Verdict}
-use Rattle.certificate.specs.declared.fault.TextFault.TheVariants.{BadLine}
-use Rattle.certificate.specs.Texts.{ReadsSizes, ReadsCert}
-use Rattle.certificate.specs.Accepts.{Accepts}
+use Rattle.cert_check.specs.declared.shape.Statement.{Statement}
+use Rattle.cert_check.specs.declared.cert.Verdict.{Verdict}
+use Rattle.cert_check.specs.declared.text_fault.TextFault.TheVariants.{BadLine}
+use Rattle.cert_check.specs.Texts.{ReadsSizes, ReadsCert}
+use Rattle.cert_check.specs.Accepts.{Accepts}
 use Rattle.cert_check.specs.Types.{CheckFault}
 use Rattle.cert_check.specs.declared.fault.CheckFault.TheVariants.{BadSizes, BadCertificate, NoMemory}
 use Rattle.cert_check.specs.Faults.{HasCheckFault, faults, FirstOf}

@@ -1,12 +1,12 @@
 use Rattle.std.specs.Prelude.{◌≡◌, ℕ, ◌+◌, ◌-◌, ◌<◌, ◌≤◌, ◌⊎◌, true, false, List, [], ◌∷◌, ◌++◌, length, slice_index, take, map}
 use Rattle.std.specs.List.{range_with_len}
-use Rattle.certificate.specs.declared.limits.TheConstants.{LONGEST_PROGRAM}
-use Rattle.certificate.specs.declared.shape.Statement.{Statement}
-use Rattle.certificate.specs.declared.cert.Verdict.{Verdict}
-use Rattle.certificate.specs.declared.cert.Verdict.TheVariants.{Best, Range, TooLarge}
-use Rattle.certificate.specs.Choice.{Choice, IsAnyJump, IsJump, IsShort, Fits, Reaches, total}
-use Rattle.certificate.specs.Forcing.{after}
-use Rattle.certificate.specs.Accepts.{IsOutOfRange}
+use Rattle.cert_check.specs.declared.limits.TheConstants.{LONGEST_PROGRAM}
+use Rattle.cert_check.specs.declared.shape.Statement.{Statement}
+use Rattle.cert_check.specs.declared.cert.Verdict.{Verdict}
+use Rattle.cert_check.specs.declared.cert.Verdict.TheVariants.{Best, Range, TooLarge}
+use Rattle.cert_check.specs.Choice.{Choice, IsAnyJump, IsJump, IsShort, Fits, Reaches, total}
+use Rattle.cert_check.specs.Forcing.{after}
+use Rattle.cert_check.specs.Accepts.{IsOutOfRange}
 use Rattle.cert_check.specs.Types.{CheckFault}
 use Rattle.cert_check.specs.declared.fault.CheckFault.TheVariants.{BadSizes, BadCertificate, NotForced, NotAJump, Repeated, StillShort, WrongTotal, NotOutOfRange, NoMemory}
 

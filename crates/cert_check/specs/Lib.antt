@@ -1,4 +1,10 @@
-pub mod Types
-pub mod Faults
-pub mod Checks
+pub mod Accepts
+pub mod Choice
+pub mod Forcing
+pub mod Lines
+pub mod Texts
+pub mod FileTypes
 pub mod Private
+pub mod Checks
+pub mod Faults
+pub mod Types

@@ -1,21 +1,20 @@
 //! Checks a sizes file and a certificate against each other.
 
 ghost use Rattle.std.specs.Prelude.{◌≡◌, ◌⊎◌, List, Result, IfOk};
-ghost use Rattle.certificate.specs.declared.shape.Statement.{Statement};
-ghost use Rattle.certificate.specs.declared.cert.Verdict.{Verdict};
-ghost use Rattle.certificate.specs.Choice.{IsShape};
-ghost use Rattle.certificate.specs.Texts.{sizes_text};
-ghost use Rattle.certificate.specs.Accepts.{HoldsOfEveryChoice};
+ghost use Rattle.cert_check.specs.declared.shape.Statement.{Statement};
+ghost use Rattle.cert_check.specs.declared.cert.Verdict.{Verdict};
+ghost use Rattle.cert_check.specs.Choice.{IsShape};
+ghost use Rattle.cert_check.specs.Texts.{sizes_text};
+ghost use Rattle.cert_check.specs.Accepts.{HoldsOfEveryChoice};
 ghost use Rattle.cert_check.specs.Types.{CheckFault};
 ghost use Rattle.cert_check.specs.Checks.{Checks, IsChecked};
 
 use crate::fault::CheckFault;
 use crate::forced::follow;
-use crate::laws::one_answer;
+use crate::laws::{accepted, one_answer};
 use crate::layout::sizes_of;
 use crate::verdict::judge;
-use certificate::laws::accepted;
-use certificate::{TextFault, Verdict, read_cert, read_sizes};
+use crate::{TextFault, Verdict, read_cert, read_sizes};
 use std::alloc::Global;
 
 /// Answers the verdict that the files prove, or their first error.

@@ -1,12 +1,12 @@
 //! Follows a forcing order, one member after the other.
 
 ghost use Rattle.std.specs.Prelude.{◌≡◌, ◌<◌, ◌≤◌, All, MatchBool, length, slice_index, sum, take};
-ghost use Rattle.certificate.specs.Choice.{IsNear, IsShape};
+ghost use Rattle.cert_check.specs.Choice.{IsNear, IsShape};
 ghost use Rattle.cert_check.specs.Private.Following.{IsFollowed, IsSize};
 
+use crate::Statement;
 use crate::fault::CheckFault;
 use crate::layout::{LONG, reaches, sizes_of};
-use certificate::Statement;
 use std::alloc::Global;
 
 /// Whether a jump has to be long if statements have these sizes: it would not reach its target as a short jump.

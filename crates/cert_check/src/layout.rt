@@ -2,12 +2,12 @@
 
 ghost use Rattle.std.specs.Prelude.{◌≡◌, ◌<◌, ◌≤◌, ◌^◌, All, IfOk, MatchBool, length, slice_index, sum, take};
 ghost use Rattle.cert_check.specs.declared.layout.TheConstants.{MOST_AHEAD};
-ghost use Rattle.certificate.specs.declared.limits.TheConstants.{MOST_BYTES};
-ghost use Rattle.certificate.specs.Choice.{IsNear, IsShape, chosen, size_of, total};
+ghost use Rattle.cert_check.specs.declared.limits.TheConstants.{MOST_BYTES};
+ghost use Rattle.cert_check.specs.Choice.{IsNear, IsShape, chosen, size_of, total};
 ghost use Rattle.cert_check.specs.Faults.{IsStillShort};
 ghost use Rattle.cert_check.specs.Private.Following.{IsFirstMiss, IsLayout, IsSize};
 
-use certificate::Statement;
+use crate::Statement;
 use std::alloc::{AllocError, Global};
 
 /// The most bytes between a short jump and a target after it.

@@ -1,13 +1,13 @@
 //! Judges the verdict after the whole order.
 
 ghost use Rattle.std.specs.Prelude.{◌<◌, ◌^◌, MatchBool, sum};
-ghost use Rattle.certificate.specs.Choice.{chosen};
-ghost use Rattle.certificate.specs.Accepts.{IsOutOfRange};
+ghost use Rattle.cert_check.specs.Choice.{chosen};
+ghost use Rattle.cert_check.specs.Accepts.{IsOutOfRange};
 ghost use Rattle.cert_check.specs.Private.Following.{IsJudged, IsLayout, IsTotalChecked};
 
 use crate::fault::CheckFault;
 use crate::layout::{first_miss, misses, total};
-use certificate::{LONGEST_PROGRAM, Statement, Verdict};
+use crate::{LONGEST_PROGRAM, Statement, Verdict};
 
 /// Whether a statement is a jump that is always short and does not reach its target.
 fn is_out_of_range(statements: &[Statement], long: &[bool], sizes: &[u32], k: usize) -> bool

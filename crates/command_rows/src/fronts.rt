@@ -3,7 +3,8 @@
 use crate::making::{Sources, lent, show_made, sources_of};
 use row_text::Row;
 use std::alloc::{AllocError, Global};
-use z80dev::{Front, Products, SourceFile, Wanted, bad_define, build};
+use z80dev::{Front, Products, SharedFile, SourceFile, Wanted, build, shared_files};
+use z80dev_make::bad_define;
 
 /// Takes a part of a row as words with commas between them; `-` is no word.
 fn words_of<'a>(alloc: Global, part: &'a str) -> Result<Vec<&'a str>, AllocError> {
@@ -45,7 +46,7 @@ fn show_behind<'a>(
     row: &mut Row,
     list: bool,
     defines: &'a [&'a str],
-    files: &'a [SourceFile<'a>],
+    files: &'a [SharedFile<'a>],
     sources: &'a [SourceFile<'a>],
 ) {
     let front = Front { defines, files };
@@ -70,9 +71,10 @@ fn lend_behind<'a>(
     shared: &'a Sources<'a>,
     sources: &'a Sources<'a>,
 ) -> Result<(), AllocError> {
-    let shared_files = lent(row.alloc(), shared)?;
+    let before = lent(row.alloc(), shared)?;
+    let before = shared_files(row.alloc(), &before)?;
     let source_files = lent(row.alloc(), sources)?;
-    show_behind(row, list, words, &shared_files, &source_files);
+    show_behind(row, list, words, &before, &source_files);
     Ok(())
 }
 

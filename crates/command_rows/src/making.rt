@@ -9,10 +9,12 @@ use z80dev::{
 use z80dev_jobs::{FailingFiles, Failure, MemoryFiles};
 
 /// Nothing before a source.
-const NO_FRONT: Front<'static> = Front {
-    defines: &[],
-    files: &[],
-};
+fn no_front() -> Front<'static> {
+    Front {
+        defines: &[],
+        files: &[],
+    }
+}
 
 /// Nothing but the program, its sizes file and its certificate.
 const NOTHING_MORE: Products = Products {
@@ -65,7 +67,7 @@ fn show_finished(row: &mut Row, finished: &Outcome) {
 /// What `asm` makes of a source.
 fn assembled<'a>(alloc: Global, path: &'a str, text: &'a [u8]) -> Answer<Told<'a>> {
     let source = SourceFile { path, text };
-    asm(alloc, NO_FRONT, source, false, false).answer
+    asm(alloc, no_front(), source, false, false).answer
 }
 
 /// Prints what `asm` makes of a source.
@@ -88,7 +90,7 @@ fn object_of(row: &mut Row, part: &str) -> Vec<u8> {
         path: "A",
         text: &text,
     };
-    let mut answer = asm(row.alloc(), NO_FRONT, source, false, false).answer;
+    let mut answer = asm(row.alloc(), no_front(), source, false, false).answer;
     match answer.files.pop() {
         Some(file) => file.bytes,
         None => {
@@ -167,7 +169,7 @@ fn show_built(row: &mut Row, sources: &[SourceFile], grow: bool, room: u64) {
         products: NOTHING_MORE,
         warn: false,
     };
-    let made = build(row.alloc(), NO_FRONT, sources, wanted);
+    let made = build(row.alloc(), no_front(), sources, wanted);
     show_made(row, made, room)
 }
 

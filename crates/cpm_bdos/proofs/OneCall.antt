@@ -7,17 +7,17 @@ use Rattle.cpm_console.specs.Dialog.{Dialog, Put}
 use Rattle.cpm_console.specs.Line.{line_transcript, typed_line}
 use Rattle.cpm_console.specs.Screen.{Screen, screen}
 use Rattle.cpm_console.specs.Text.{before_dollar, bytes_from, text_shown}
-use Rattle.cpm_directory.specs.declared.entry.TheConstants.{USERS}
-use Rattle.cpm_directory.specs.Letters.{letters}
-use Rattle.cpm_directory.specs.Rules.{IsSound}
+use Rattle.cpm_image.specs.declared.directory.entry.TheConstants.{USERS}
+use Rattle.cpm_image.specs.Directory.Letters.{letters}
+use Rattle.cpm_image.specs.Directory.Rules.{IsSound}
 use Rattle.cpm_disk.specs.Calls.{Mounted}
 use Rattle.cpm_disk.specs.Image.{Image, directory}
-use Rattle.cpm_fcb.specs.Bytes.{memory_byte}
-use Rattle.cpm_fcb.specs.Fcbs.{drive_judged, fcb_at, file_judged, name_of}
-use Rattle.cpm_fcb.specs.Files.{entry_found, with_entry}
-use Rattle.cpm_fcb.specs.Stops.{done, unless_stopped}
-use Rattle.cpm_fcb.specs.declared.stop.Stop.{Stop}
-use Rattle.cpm_fcb.specs.declared.stop.Stop.TheVariants as stop
+use Rattle.cpm_disk.specs.Control.Bytes.{memory_byte}
+use Rattle.cpm_disk.specs.Control.Fcbs.{drive_judged, fcb_at, file_judged, name_of}
+use Rattle.cpm_disk.specs.Control.Files.{entry_found, with_entry}
+use Rattle.cpm_disk.specs.Control.Stops.{done, unless_stopped}
+use Rattle.cpm_disk.specs.declared.control.stop.Stop.{Stop}
+use Rattle.cpm_disk.specs.declared.control.stop.Stop.TheVariants as stop
 use Rattle.cpm_bdos.specs.Alike.{AlikeDisks, AlikeScreens, AlikeSystems, HasNotFailed, SameImage}
 use Rattle.cpm_bdos.specs.Answer.{Answers, CallerSees, ConsoleAnswers, EntryAnswers, FileAnswers, InputAnswers, KnownAnswers, KnownEntry, RecordAnswers, SearchAnswers, SettingAnswers, answered, nothing_answered, output_answered, with_accumulator, with_value}
 use Rattle.cpm_bdos.specs.Console.Raw.{readiness}

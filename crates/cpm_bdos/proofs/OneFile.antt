@@ -4,25 +4,25 @@ use Rattle.std.specs.Prelude.{⊤, if◌then◌else◌}
 use Rattle.std.proofs.lemmas.List.{length-map}
 use Rattle.std.proofs.lemmas.List.FromFn.{length-map-range_with_len}
 use Rattle.cpm_image.specs.declared.kind.DiskKind.{DiskKind}
-use Rattle.cpm_directory.specs.declared.entry.Entry.{Entry}
-use Rattle.cpm_directory.specs.declared.entry.TheConstants.{USERS}
-use Rattle.cpm_directory.specs.declared.fault.DiskFault.{DiskFault}
-use Rattle.cpm_directory.specs.declared.fault.DiskFault.TheVariants as fault
-use Rattle.cpm_directory.specs.declared.pattern.Pattern.{Pattern}
-use Rattle.cpm_directory.specs.Entries.{at, bytes_of, is_extent_of}
-use Rattle.cpm_directory.specs.Letters.{letters}
-use Rattle.cpm_directory.specs.Rules.{IsSound}
-use Rattle.cpm_directory.specs.Searches.{found_from, size}
+use Rattle.cpm_image.specs.declared.directory.entry.Entry.{Entry}
+use Rattle.cpm_image.specs.declared.directory.entry.TheConstants.{USERS}
+use Rattle.cpm_image.specs.declared.directory.fault.DiskFault.{DiskFault}
+use Rattle.cpm_image.specs.declared.directory.fault.DiskFault.TheVariants as fault
+use Rattle.cpm_image.specs.declared.directory.pattern.Pattern.{Pattern}
+use Rattle.cpm_image.specs.Directory.Entries.{at, bytes_of, is_extent_of}
+use Rattle.cpm_image.specs.Directory.Letters.{letters}
+use Rattle.cpm_image.specs.Directory.Rules.{IsSound}
+use Rattle.cpm_image.specs.Directory.Searches.{found_from, size}
 use Rattle.cpm_disk.specs.Calls.{Mounted}
-use Rattle.cpm_directory.proofs.Bytes.{letters-letters}
+use Rattle.cpm_image.proofs.EntryBytes.{letters-letters}
 use Rattle.cpm_disk.specs.Image.{Image, directory}
 use Rattle.cpm_disk.specs.Operations.{IsCreated, IsErased, IsRecordRead, IsRecordWritten, IsRenamed}
-use Rattle.cpm_fcb.specs.Bytes.{bytes_at, memory_byte, with_bytes}
-use Rattle.cpm_fcb.specs.Fcbs.{drive_judged, fcb_at, file_judged, name_of, names_judged, new_name_of, random_of}
-use Rattle.cpm_fcb.specs.Files.{entry_bytes, entry_found, extent_found, file_size, with_entry}
-use Rattle.cpm_fcb.specs.Stops.{Done, Ends, Unless, done}
-use Rattle.cpm_fcb.specs.declared.stop.Stop.{Stop}
-use Rattle.cpm_fcb.specs.declared.stop.Stop.TheVariants as stop
+use Rattle.cpm_disk.specs.Control.Bytes.{bytes_at, memory_byte, with_bytes}
+use Rattle.cpm_disk.specs.Control.Fcbs.{drive_judged, fcb_at, file_judged, name_of, names_judged, new_name_of, random_of}
+use Rattle.cpm_disk.specs.Control.Files.{entry_bytes, entry_found, extent_found, file_size, with_entry}
+use Rattle.cpm_disk.specs.Control.Stops.{Done, Ends, Unless, done}
+use Rattle.cpm_disk.specs.declared.control.stop.Stop.{Stop}
+use Rattle.cpm_disk.specs.declared.control.stop.Stop.TheVariants as stop
 use Rattle.cpm_bdos.specs.Alike.{AlikeDisks, HasNotFailed, SameImage}
 use Rattle.cpm_bdos.specs.Files.Changes.{ErasesFiles, Makes, RenamesFile, erase_answer, make_answer, rename_answer}
 use Rattle.cpm_bdos.specs.Files.Searching.{next_found, next_search, searched, with_searched}

@@ -6,8 +6,8 @@ use Rattle.cpm_console.specs.Dialog.{Dialog, Event, Passes, PassesUnfailed, Put,
 use Rattle.cpm_console.specs.Line.{Ending, Stored, Transcript}
 use Rattle.cpm_console.specs.Line.Ending.{NoInput, WarmBoot as Broken}
 use Rattle.cpm_console.specs.Screen.{Does, Screen, column_after}
-use Rattle.cpm_fcb.specs.declared.stop.Stop.{Stop}
-use Rattle.cpm_fcb.specs.declared.stop.Stop.TheVariants as stop
+use Rattle.cpm_disk.specs.declared.control.stop.Stop.{Stop}
+use Rattle.cpm_disk.specs.declared.control.stop.Stop.TheVariants as stop
 use Rattle.cpm_bdos.specs.Alike.{AlikeDialogs, AlikeScreens, HasNotFailed, SameIfKnown}
 use Rattle.cpm_bdos.specs.Console.Lines.{ReadsLine, with_line_stored}
 use Rattle.cpm_bdos.specs.Console.Raw.{Directs, PutsRaw, TakesAny, TakesRaw, PutsDirect, Asked}

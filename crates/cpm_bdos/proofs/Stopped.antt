@@ -7,15 +7,15 @@ use Rattle.cpm_disk.specs.Calls.{Mounted}
 use Rattle.cpm_disk.specs.Image.{Image}
 use Rattle.cpm_bdos.specs.Console.Lines.{ReadsLine}
 use Rattle.cpm_bdos.specs.declared.console.reply.Reply.TheVariants.{Value, WarmBoot}
-use Rattle.cpm_directory.specs.declared.fault.DiskFault.{DiskFault}
-use Rattle.cpm_directory.specs.Letters.{letters}
+use Rattle.cpm_image.specs.declared.directory.fault.DiskFault.{DiskFault}
+use Rattle.cpm_image.specs.Directory.Letters.{letters}
 use Rattle.cpm_disk.specs.Operations.{IsCreated, IsRecordRead, IsRecordWritten}
-use Rattle.cpm_fcb.specs.Bytes.{bytes_at}
-use Rattle.cpm_fcb.specs.Fcbs.{fcb_at, file_judged, name_of, random_of}
-use Rattle.cpm_fcb.specs.Stops.{Ends, Unless}
+use Rattle.cpm_disk.specs.Control.Bytes.{bytes_at}
+use Rattle.cpm_disk.specs.Control.Fcbs.{fcb_at, file_judged, name_of, random_of}
+use Rattle.cpm_disk.specs.Control.Stops.{Ends, Unless}
 use Rattle.cpm_bdos.specs.Files.Changes.{make_answer}
-use Rattle.cpm_fcb.specs.declared.stop.Stop.{Stop}
-use Rattle.cpm_fcb.specs.declared.stop.Stop.TheVariants as stop
+use Rattle.cpm_disk.specs.declared.control.stop.Stop.{Stop}
+use Rattle.cpm_disk.specs.declared.control.stop.Stop.TheVariants as stop
 use Rattle.std.specs.Prelude.{⊤}
 use Rattle.cpm_bdos.specs.declared.files.search.Search.{Search}
 use Rattle.cpm_bdos.specs.Records.Random.{Within, can_have_record, read_at, write_at}

@@ -3,12 +3,12 @@
 use Rattle.std.specs.Prelude.{◌≡◌, ◌≢◌, ◌<◌, ◌++◌, [], ℕ, List, Option, Some, None, Result, Err, ⊤}
 use Rattle.cpm_console.specs.Dialog.{Dialog}
 use Rattle.cpm_console.specs.Screen.{Screen, screen}
-use Rattle.cpm_directory.specs.declared.entry.TheConstants.{USERS}
-use Rattle.cpm_directory.specs.Rules.{IsSound}
+use Rattle.cpm_image.specs.declared.directory.entry.TheConstants.{USERS}
+use Rattle.cpm_image.specs.Directory.Rules.{IsSound}
 use Rattle.cpm_disk.specs.Calls.{Mounted}
 use Rattle.cpm_disk.specs.Image.{Image, IsOfDirectory, SameBut, directory}
-use Rattle.cpm_fcb.specs.declared.stop.Stop.{Stop}
-use Rattle.cpm_fcb.specs.declared.stop.Stop.TheVariants as stop
+use Rattle.cpm_disk.specs.declared.control.stop.Stop.{Stop}
+use Rattle.cpm_disk.specs.declared.control.stop.Stop.TheVariants as stop
 use Rattle.cpm_bdos.specs.System.{System}
 use Rattle.cpm_image.specs.declared.kind.DiskKind.{DiskKind}
 

@@ -8,10 +8,10 @@ use Rattle.cpm_console.specs.Line.{typed_line}
 use Rattle.cpm_console.specs.Screen.{Screen, screen}
 use Rattle.cpm_disk.specs.Calls.{Mounted}
 use Rattle.cpm_disk.specs.Image.{Image}
-use Rattle.cpm_fcb.specs.Bytes.{memory_byte}
-use Rattle.cpm_fcb.specs.Stops.{Ends}
-use Rattle.cpm_fcb.specs.declared.stop.Stop.{Stop}
-use Rattle.cpm_fcb.specs.declared.stop.Stop.TheVariants as stop
+use Rattle.cpm_disk.specs.Control.Bytes.{memory_byte}
+use Rattle.cpm_disk.specs.Control.Stops.{Ends}
+use Rattle.cpm_disk.specs.declared.control.stop.Stop.{Stop}
+use Rattle.cpm_disk.specs.declared.control.stop.Stop.TheVariants as stop
 use Rattle.cpm_bdos.specs.declared.console.reply.Reply.{Reply}
 use Rattle.cpm_bdos.specs.declared.console.reply.Reply.TheVariants.{Value, WarmBoot}
 use Rattle.cpm_bdos.specs.Console.Lines.{ReadsLine}

@@ -1,8 +1,8 @@
 -- The functions that use neither the console nor the disk: 12, 13, 14, 24, 25, 26 and 32. (CP/M 2.2 Interface Guide.)
 use Rattle.std.specs.Prelude.{◌%◌, ◌==◌, ℕ, Result, Ok, Err, if◌then◌else◌}
-use Rattle.cpm_directory.specs.declared.entry.TheConstants.{USERS}
-use Rattle.cpm_fcb.specs.declared.stop.Stop.{Stop}
-use Rattle.cpm_fcb.specs.declared.stop.Stop.TheVariants as stop
+use Rattle.cpm_image.specs.declared.directory.entry.TheConstants.{USERS}
+use Rattle.cpm_disk.specs.declared.control.stop.Stop.{Stop}
+use Rattle.cpm_disk.specs.declared.control.stop.Stop.TheVariants as stop
 use Rattle.cpm_bdos.specs.declared.function.SettingCall.{SettingCall}
 use Rattle.cpm_bdos.specs.declared.function.SettingCall.TheVariants as setting
 use Rattle.cpm_bdos.specs.declared.setting.Settings.{Settings}

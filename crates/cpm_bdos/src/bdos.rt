@@ -10,8 +10,7 @@ use crate::records::{read_at, read_next, set_random, size, write_at, write_next}
 use crate::registers::{answered, byte_answered, nothing_answered, put_value};
 use crate::setting::{FIRST_DMA, set_by};
 use cpm_console::{Console, MemoryConsole, Terminal};
-use cpm_disk::Disk;
-use cpm_fcb::Stop;
+use cpm_disk::{Disk, Stop};
 use cpm_image::{MemoryImage, Sectors};
 use std::alloc::{AllocError, Global};
 use std::marker::Model;
@@ -30,7 +29,7 @@ pub struct Bdos<S: Sectors, C: Console> {
 
 impl<S: Sectors, C: Console> Model for Bdos<S, C> {
     ghost use Rattle.std.specs.Prelude.{◌<◌};
-    ghost use Rattle.cpm_directory.specs.declared.entry.TheConstants.{USERS};
+    ghost use Rattle.cpm_image.specs.declared.directory.entry.TheConstants.{USERS};
     ghost use Rattle.cpm_bdos.specs.System.{System};
 
     ghost Value = { System S C };

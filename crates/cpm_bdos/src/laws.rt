@@ -2,7 +2,7 @@
 
 ghost use Rattle.std.specs.Prelude.{◌≡◌, ℕ, List, Option, Result};
 ghost use Rattle.z80_cpu.specs.declared.registers.Cpu.{Cpu};
-ghost use Rattle.cpm_fcb.specs.declared.stop.Stop.{Stop};
+ghost use Rattle.cpm_disk.specs.declared.control.stop.Stop.{Stop};
 ghost use Rattle.cpm_bdos.specs.declared.outcome.After.{After};
 ghost use Rattle.cpm_bdos.specs.System.{System};
 ghost use Rattle.cpm_bdos.specs.Answer.{BiosAnswers, CallAnswers};

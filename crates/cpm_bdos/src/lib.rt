@@ -15,7 +15,7 @@ mod setting;
 
 pub use bdos::Bdos;
 pub use console::Reply;
-pub use cpm_fcb::Stop;
+pub use cpm_disk::Stop;
 pub use function::{
     BiosEntry, ConsoleCall, FileCall, Function, RecordCall, SearchCall, SettingCall,
 };

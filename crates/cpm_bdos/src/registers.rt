@@ -4,7 +4,7 @@ ghost use Rattle.std.specs.Prelude.{◌≡◌};
 ghost use Rattle.cpm_bdos.specs.Answer.{answered, nothing_answered, with_value};
 
 use crate::console::Reply;
-use cpm_fcb::Stop;
+use cpm_disk::Stop;
 use z80_cpu::Cpu;
 
 /// Writes the value of a call to HL, and L to A and H to B.

@@ -4,8 +4,8 @@ ghost use Rattle.std.specs.Prelude.{◌≡◌, ◌<◌, IfOk};
 ghost use Rattle.cpm_bdos.specs.Settings.{set_by, user_set};
 
 use crate::function::SettingCall;
-use cpm_directory::USERS;
-use cpm_fcb::Stop;
+use cpm_disk::Stop;
+use cpm_image::USERS;
 
 /// The DMA address after a reset.
 pub(crate) const FIRST_DMA: u16 = 0x0080;

@@ -2,7 +2,7 @@
 use Rattle.std.proofs.Common.{◌≡◌, ◌⊎◌, ℕ, List, [], ◌∷◌, ◌++◌, map, refl, ap, sym, ◌∙◌, inl, inr, arith, append_assoc}
 use Rattle.std.proofs.KnownBytes.{Appends-nil, Appends-trans}
 use Rattle.cpm_console.specs.Dialog.{Dialog, Event, Passes, Put, Took, put_by, taken_by}
-use Rattle.streams.specs.Stream.{counted}
+use Rattle.host.specs.Streams.Stream.{counted}
 use Rattle.cpm_console.specs.Screen.{Screen, Does, Stops, column_after}
 
 taken-append : (x y : List Event) → taken_by (x ++ y) ≡ taken_by x ++ taken_by y

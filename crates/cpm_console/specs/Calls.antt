@@ -3,7 +3,7 @@ use Rattle.std.specs.Prelude.{◌≡◌, ◌⊎◌, ℕ, [], ◌∷◌, Result, 
 use Rattle.cpm_console.specs.declared.error.ConsoleError.{ConsoleError}
 use Rattle.cpm_console.specs.declared.error.ConsoleError.TheVariants.{EndOfInput, ConsoleFault}
 use Rattle.cpm_console.specs.Dialog.{Dialog, Passes, Put, PassesUnfailed, Took}
-use Rattle.streams.specs.Stream.{counted}
+use Rattle.host.specs.Streams.Stream.{counted}
 
 -- Taking a byte: the next one is taken; or there is none; or the console failed and took nothing. A console answers a fault only if it
 -- failed, and counts that once.

@@ -4,4 +4,6 @@ pub mod Failing
 pub mod Screen
 pub mod Text
 pub mod Line
+pub mod Codes
+pub mod Seat
 pub mod Private

@@ -1,7 +1,7 @@
 -- A terminal: a console with a column.
 use Rattle.std.specs.Prelude.{◌≡◌, ◌≤◌, ◌==◌, ◌+◌, ◌-◌, ◌%◌, ◌&&◌, Bool, not, ℕ, nat_le, List, [], ◌∷◌, ◌++◌, length, map, if◌then◌else◌}
 use Rattle.cpm_console.specs.Dialog.{Dialog, Event, Passes, Put, put_by}
-use Rattle.streams.specs.Stream.{counted}
+use Rattle.host.specs.Streams.Stream.{counted}
 use Rattle.cpm_console.specs.declared.terminal.Terminal.{Terminal}
 
 pub record Screen : Type 0 where

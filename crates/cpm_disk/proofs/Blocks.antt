@@ -4,8 +4,8 @@ use Rattle.cpm_image.specs.Kind.{block_count, block_records, first_block}
 use Rattle.cpm_image.specs.declared.kind.DiskKind.{DiskKind}
 use Rattle.cpm_disk.proofs.Numbers.{beside_directory, of_block, record_below, one_slot}
 use Rattle.std.proofs.lemmas.Bool.{cases_eq}
-use Rattle.cpm_directory.specs.declared.entry.Entry.{Entry}
-use Rattle.cpm_directory.specs.Entries.{at}
+use Rattle.cpm_image.specs.declared.directory.entry.Entry.{Entry}
+use Rattle.cpm_image.specs.Directory.Entries.{at}
 use Rattle.cpm_disk.specs.declared.placement.Placement.{Placement}
 use Rattle.cpm_disk.specs.Private.Blocks.{Cleared, Prepared}
 use Rattle.cpm_disk.specs.Calls.{Changed, HasWritten, PartlyWritten, Written}

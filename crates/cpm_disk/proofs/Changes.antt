@@ -4,8 +4,8 @@ use Rattle.cpm_image.specs.Kind.{entry_count, sector_count}
 use Rattle.cpm_image.specs.declared.kind.DiskKind.{DiskKind}
 use Rattle.std.proofs.lemmas.List.{get_or_default, set-get_or}
 use Rattle.std.proofs.lemmas.List.Edits.{map_over_more}
-use Rattle.cpm_directory.specs.declared.entry.Entry.{Entry}
-use Rattle.cpm_directory.specs.Entries.{at, blank}
+use Rattle.cpm_image.specs.declared.directory.entry.Entry.{Entry}
+use Rattle.cpm_image.specs.Directory.Entries.{at, blank}
 use Rattle.cpm_disk.specs.Kept.{IsBetween}
 use Rattle.cpm_disk.specs.declared.change.Change.{Change}
 use Rattle.cpm_disk.specs.Calls.{Changed, PartlyChanged}

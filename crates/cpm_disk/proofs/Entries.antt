@@ -6,10 +6,10 @@ use Rattle.std.proofs.lemmas.List.{get_or_past}
 use Rattle.std.proofs.lemmas.List.Folds.{list_any_at}
 use Rattle.std.proofs.lemmas.Slice.Eq.{bytes_eq-Decides}
 use Rattle.std.specs.List.{list_any, range_with_len}
-use Rattle.cpm_directory.specs.declared.entry.TheConstants.{USERS}
-use Rattle.cpm_directory.specs.declared.entry.Entry.{Entry}
-use Rattle.cpm_directory.specs.Entries.{at, blank, is_extent, is_match, is_of}
-use Rattle.cpm_directory.specs.Letters.{letters, with_letters}
+use Rattle.cpm_image.specs.declared.directory.entry.TheConstants.{USERS}
+use Rattle.cpm_image.specs.declared.directory.entry.Entry.{Entry}
+use Rattle.cpm_image.specs.Directory.Entries.{at, blank, is_extent, is_match, is_of}
+use Rattle.cpm_image.specs.Directory.Letters.{letters, with_letters}
 
 -- if a test fails for all entries of a list and for a blank one, it fails at every number
 pub none_at : (p : Entry → Bool) (entries : List Entry) (k : ℕ) → p blank ≡ false → list_any p entries ≡ false → p (at entries k) ≡ false

@@ -2,8 +2,8 @@
 use Rattle.std.proofs.Common.{◌≡◌, ◌+◌, ◌*◌, ℕ, List, [], ◌∷◌, ◌++◌, drop, length, length-append, take, sym, ap, ◌∙◌, inl, inr, arith}
 use Rattle.std.proofs.lemmas.Bool.{cases_eq}
 use Rattle.std.proofs.lemmas.List.{get_or_append_left, get_or_at}
-use Rattle.cpm_directory.specs.declared.entry.Entry.{Entry}
-use Rattle.cpm_directory.specs.Entries.{at, blank, entry_of}
+use Rattle.cpm_image.specs.declared.directory.entry.Entry.{Entry}
+use Rattle.cpm_image.specs.Directory.Entries.{at, blank, entry_of}
 use Rattle.cpm_disk.specs.Private.Reading.{Extended}
 
 pub one_more_piece : (old now new : List Entry) (bytes : List ℕ) (count : ℕ) (e : Entry) → Extended old now bytes count → new ≡ now ++ e ∷ [] → e ≡ entry_of (take 32 (drop (32 * count) bytes)) → Extended old new bytes (count + 1)

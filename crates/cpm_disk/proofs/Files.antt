@@ -4,8 +4,8 @@ use Rattle.cpm_image.specs.Kind.{block_records, entry_count}
 use Rattle.cpm_image.specs.declared.kind.DiskKind.{DiskKind}
 use Rattle.std.proofs.lemmas.Bool.{and_parts, cases_Bool, eqb-false}
 use Rattle.std.specs.List.{list_any}
-use Rattle.cpm_directory.specs.declared.entry.Entry.{Entry}
-use Rattle.cpm_directory.specs.Entries.{extent_number, at, block, is_extent_of, is_of, is_read_only, is_system, place_on_disk}
+use Rattle.cpm_image.specs.declared.directory.entry.Entry.{Entry}
+use Rattle.cpm_image.specs.Directory.Entries.{extent_number, at, block, is_extent_of, is_of, is_read_only, is_system, place_on_disk}
 use Rattle.cpm_disk.proofs.Entries.{found_at}
 use Rattle.cpm_disk.specs.Files.{SameFile, in_block}
 use Rattle.cpm_disk.specs.Image.{Image, directory, disk_record}

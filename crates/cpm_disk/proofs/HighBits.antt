@@ -1,10 +1,10 @@
 -- The high bits of the bytes of a name, which are attributes.
 use Rattle.std.proofs.Common.{◌≡◌, ◌<◌, ◌+◌, ◌%◌, ℕ, zero, suc, Bool, true, false, List, [], ◌∷◌, length, get_or, nat_le, set, get_or-set_same, refl, ap, ◌∙◌, arith, le-leb}
 use Rattle.std.proofs.lemmas.Bool.{lt-leb}
-use Rattle.cpm_directory.specs.declared.attribute.Attribute.{Attribute}
-use Rattle.cpm_directory.specs.declared.entry.Entry.{Entry}
-use Rattle.cpm_directory.specs.Entries.{attribute_byte, marked, with_high}
-use Rattle.cpm_directory.specs.Letters.{letters}
+use Rattle.cpm_image.specs.declared.directory.attribute.Attribute.{Attribute}
+use Rattle.cpm_image.specs.declared.directory.entry.Entry.{Entry}
+use Rattle.cpm_image.specs.Directory.Entries.{attribute_byte, marked, with_high}
+use Rattle.cpm_image.specs.Directory.Letters.{letters}
 
 low_bits : (on : Bool) (x : ℕ) → with_high on x % 128 ≡ x % 128
 low_bits true x = omega arith

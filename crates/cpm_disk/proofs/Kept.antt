@@ -3,17 +3,17 @@ use Rattle.std.proofs.Common.{◌≡◌, ◌≢◌, ◌⊎◌, ◌<◌, ◌*◌,
 use Rattle.std.proofs.lemmas.Bool.{cases_Bool, cases_eq}
 use Rattle.std.proofs.lemmas.List.Quantifiers.{position-Some}
 use Rattle.std.proofs.lemmas.List.{length-map}
-use Rattle.cpm_directory.specs.declared.attribute.Attribute.{Attribute}
-use Rattle.cpm_directory.specs.declared.entry.TheConstants.{USERS}
+use Rattle.cpm_image.specs.declared.directory.attribute.Attribute.{Attribute}
+use Rattle.cpm_image.specs.declared.directory.entry.TheConstants.{USERS}
 use Rattle.cpm_image.specs.Kind.{file_records}
 use Rattle.cpm_image.specs.declared.kind.DiskKind.{DiskKind}
 use Rattle.cpm_image.specs.declared.kind.DiskKind.TheVariants.{EightInch, Megabyte}
-use Rattle.cpm_directory.proofs.Words.{new_block}
-use Rattle.cpm_directory.specs.declared.entry.Entry.{Entry}
-use Rattle.cpm_directory.specs.Entries.{at, blank, block, erased, extent_number, is_extent, is_free, is_match, is_of, new_extent, renamed}
-use Rattle.cpm_directory.specs.Letters.{letters}
-use Rattle.cpm_directory.specs.Rules.{AreBlocks, AreSameExtent, IsGood, IsSound}
-use Rattle.cpm_directory.specs.Searches.{free_entry, is_file}
+use Rattle.cpm_image.proofs.Words.{new_block}
+use Rattle.cpm_image.specs.declared.directory.entry.Entry.{Entry}
+use Rattle.cpm_image.specs.Directory.Entries.{at, blank, block, erased, extent_number, is_extent, is_free, is_match, is_of, new_extent, renamed}
+use Rattle.cpm_image.specs.Directory.Letters.{letters}
+use Rattle.cpm_image.specs.Directory.Rules.{AreBlocks, AreSameExtent, IsGood, IsSound}
+use Rattle.cpm_image.specs.Directory.Searches.{free_entry, is_file}
 use Rattle.cpm_disk.specs.Kept.{IsBetween, StaysSound}
 use Rattle.cpm_disk.specs.Steps.{after_erasure, after_marking, after_renaming, erased_by, marked_by, renamed_by}
 use Rattle.cpm_disk.proofs.Entries.{at_map, blank_is_not_of, is_of_file, letters_with, none_at, of_file, blank_is_no_match}

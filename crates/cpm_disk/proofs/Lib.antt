@@ -24,3 +24,4 @@ mod Remembered
 mod StillMounted
 mod Stopped
 mod Written
+pub mod Putting

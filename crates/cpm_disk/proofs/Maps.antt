@@ -4,21 +4,21 @@ use Rattle.cpm_image.specs.Kind.{block_count, block_records, first_block}
 use Rattle.cpm_image.specs.declared.kind.DiskKind.{DiskKind}
 use Rattle.cpm_disk.proofs.Numbers.{outside_directory}
 use Rattle.cpm_disk.proofs.RecordPlaces.{place_within}
-use Rattle.cpm_directory.proofs.Words.{new_block}
+use Rattle.cpm_image.proofs.Words.{new_block}
 use Rattle.std.proofs.lemmas.Bool.{and_from, and_parts, cases_Bool, cases_eq, cases_lt, lt-leb, not-false}
 use Rattle.std.specs.List.{list_any}
-use Rattle.cpm_directory.specs.declared.entry.TheConstants.{USERS}
-use Rattle.cpm_directory.specs.declared.entry.Entry.{Entry}
-use Rattle.cpm_directory.specs.Entries.{block_numbers, extent_number, place_in_block, at, blank, block, erased, is_extent, is_extent_of, is_match, is_of, is_read_only, is_system, new_extent, place_on_disk, renamed}
-use Rattle.cpm_directory.specs.Letters.{letters, name_matches, with_letters}
-use Rattle.cpm_directory.specs.Rules.{IsBlock, IsSound}
-use Rattle.cpm_directory.specs.Searches.{file_is_read_only, free_entry, is_file}
+use Rattle.cpm_image.specs.declared.directory.entry.TheConstants.{USERS}
+use Rattle.cpm_image.specs.declared.directory.entry.Entry.{Entry}
+use Rattle.cpm_image.specs.Directory.Entries.{block_numbers, extent_number, place_in_block, at, blank, block, erased, is_extent, is_extent_of, is_match, is_of, is_read_only, is_system, new_extent, place_on_disk, renamed}
+use Rattle.cpm_image.specs.Directory.Letters.{letters, name_matches, with_letters}
+use Rattle.cpm_image.specs.Directory.Rules.{IsBlock, IsSound}
+use Rattle.cpm_image.specs.Directory.Searches.{file_is_read_only, free_entry, is_file}
 use Rattle.cpm_disk.proofs.Entries.{found_at, below_extent, blank_is_not_of, is_of_file, letters_with, none_at, of_file}
 use Rattle.cpm_disk.proofs.Kept.{at_erasure, at_renaming, length_of_name}
 use Rattle.cpm_disk.specs.Kept.{IsGoodPut}
 use Rattle.cpm_disk.specs.Steps.{◌>>=◌, after_erasure, after_renaming, creation, some_or, renaming, unless, erased_by, renamed_by}
 use Rattle.cpm_disk.proofs.Results.{unless_ok}
-use Rattle.cpm_directory.specs.declared.fault.DiskFault.TheVariants as fault
+use Rattle.cpm_image.specs.declared.directory.fault.DiskFault.TheVariants as fault
 use Rattle.cpm_disk.specs.Calls.{Changed}
 use Rattle.cpm_disk.specs.Files.{IsMoved, IsNewFile, IsNoFile, in_block}
 use Rattle.cpm_disk.specs.Image.{Image, IsOfDirectory, SameBut, directory, disk_record}

@@ -4,13 +4,13 @@ use Rattle.std.proofs.lemmas.Bool.{and_from, and_parts, cases_Bool}
 use Rattle.std.specs.List.{list_any}
 use Rattle.cpm_image.specs.Kind.{block_records}
 use Rattle.cpm_image.specs.declared.kind.DiskKind.{DiskKind}
-use Rattle.cpm_directory.specs.declared.attribute.Attribute.{Attribute}
-use Rattle.cpm_directory.specs.declared.attribute.Attribute.TheVariants.{ReadOnly, System}
-use Rattle.cpm_directory.specs.declared.entry.TheConstants.{USERS}
-use Rattle.cpm_directory.specs.declared.entry.Entry.{Entry}
-use Rattle.cpm_directory.specs.Entries.{at, blank, block, block_numbers, extent_number, is_extent_of, is_match, is_of, is_read_only, is_system, marked, place_in_block, place_on_disk}
-use Rattle.cpm_directory.specs.Letters.{letters, name_matches}
-use Rattle.cpm_directory.specs.Rules.{IsSound}
+use Rattle.cpm_image.specs.declared.directory.attribute.Attribute.{Attribute}
+use Rattle.cpm_image.specs.declared.directory.attribute.Attribute.TheVariants.{ReadOnly, System}
+use Rattle.cpm_image.specs.declared.directory.entry.TheConstants.{USERS}
+use Rattle.cpm_image.specs.declared.directory.entry.Entry.{Entry}
+use Rattle.cpm_image.specs.Directory.Entries.{at, blank, block, block_numbers, extent_number, is_extent_of, is_match, is_of, is_read_only, is_system, marked, place_in_block, place_on_disk}
+use Rattle.cpm_image.specs.Directory.Letters.{letters, name_matches}
+use Rattle.cpm_image.specs.Directory.Rules.{IsSound}
 use Rattle.cpm_disk.proofs.Entries.{found_at, of_file}
 use Rattle.cpm_disk.proofs.HighBits.{high_set}
 use Rattle.cpm_disk.proofs.Kept.{IsSameButHigh, at_marking, same_but_high}

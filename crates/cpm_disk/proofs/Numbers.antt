@@ -3,7 +3,7 @@ use Rattle.std.proofs.Common.{◌≡◌, ◌<◌, ◌≤◌, ◌+◌, ◌*◌, �
 use Rattle.cpm_image.specs.Kind.{block_count, block_records, directory_records, entry_count, file_records, first_block, record_count}
 use Rattle.cpm_image.specs.declared.kind.DiskKind.{DiskKind}
 use Rattle.cpm_image.specs.declared.kind.DiskKind.TheVariants.{EightInch, Megabyte}
-use Rattle.cpm_directory.specs.Entries.{place_in_block}
+use Rattle.cpm_image.specs.Directory.Entries.{place_in_block}
 use Rattle.cpm_disk.specs.Image.{IsOfBlock, IsOfDirectory}
 
 pub of_block : (kind : DiskKind) (b i : ℕ) → i < block_records kind → IsOfBlock kind b (block_records kind * b + i)

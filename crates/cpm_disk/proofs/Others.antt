@@ -5,13 +5,13 @@ use Rattle.cpm_image.specs.declared.kind.DiskKind.{DiskKind}
 use Rattle.cpm_disk.proofs.Numbers.{outside_directory, same_block}
 use Rattle.cpm_disk.proofs.RecordPlaces.{place_within}
 use Rattle.std.proofs.lemmas.Bool.{and_parts, cases_Bool, cases_eq}
-use Rattle.cpm_directory.specs.declared.entry.TheConstants.{USERS}
-use Rattle.cpm_directory.specs.declared.entry.Entry.{Entry}
-use Rattle.cpm_directory.specs.Entries.{at, blank, block, erased, is_free, is_match, is_of, new_extent, place_on_disk, renamed}
-use Rattle.cpm_directory.specs.Letters.{byte_matches, letters, name_matches}
-use Rattle.cpm_directory.specs.Rules.{IsSound}
-use Rattle.cpm_directory.specs.Searches.{free_entry, is_file}
-use Rattle.cpm_directory.specs.declared.fault.DiskFault.TheVariants as fault
+use Rattle.cpm_image.specs.declared.directory.entry.TheConstants.{USERS}
+use Rattle.cpm_image.specs.declared.directory.entry.Entry.{Entry}
+use Rattle.cpm_image.specs.Directory.Entries.{at, blank, block, erased, is_free, is_match, is_of, new_extent, place_on_disk, renamed}
+use Rattle.cpm_image.specs.Directory.Letters.{byte_matches, letters, name_matches}
+use Rattle.cpm_image.specs.Directory.Rules.{IsSound}
+use Rattle.cpm_image.specs.Directory.Searches.{free_entry, is_file}
+use Rattle.cpm_image.specs.declared.directory.fault.DiskFault.TheVariants as fault
 use Rattle.cpm_disk.proofs.Entries.{below_extent, is_of_file, letters_with, of_file}
 use Rattle.cpm_disk.proofs.Kept.{at_erasure, at_renaming, length_of_name}
 use Rattle.cpm_disk.specs.declared.placement.Placement.{Placement}

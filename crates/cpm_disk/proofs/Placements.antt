@@ -5,16 +5,16 @@ use Rattle.std.proofs.lemmas.List.{get_or_past}
 use Rattle.std.proofs.lemmas.List.Quantifiers.{position-Some}
 use Rattle.std.proofs.lemmas.List.Sums.{fails_before_first}
 use Rattle.std.specs.List.{list_any, position_or_len}
-use Rattle.cpm_directory.specs.declared.entry.TheConstants.{USERS}
+use Rattle.cpm_image.specs.declared.directory.entry.TheConstants.{USERS}
 use Rattle.cpm_image.specs.Kind.{block_count, block_records, file_records, first_block}
 use Rattle.cpm_image.specs.declared.kind.DiskKind.{DiskKind}
 use Rattle.cpm_image.specs.declared.kind.DiskKind.TheVariants.{EightInch, Megabyte}
-use Rattle.cpm_directory.proofs.Words.{new_block, number_of_new, numbers-with_block}
-use Rattle.cpm_directory.specs.declared.entry.Entry.{Entry}
-use Rattle.cpm_directory.specs.declared.fault.DiskFault.TheVariants as fault
-use Rattle.cpm_directory.specs.Entries.{at, blank, block, blocks_of, extent_number, is_extent, is_free, is_of, is_extent_of, new_extent, with_record}
-use Rattle.cpm_directory.specs.Rules.{AreBlocks, AreSameExtent, IsBlock, IsSound}
-use Rattle.cpm_directory.specs.Searches.{free_block, free_entry, file_is_read_only, is_file, is_taken}
+use Rattle.cpm_image.proofs.Words.{new_block, number_of_new, numbers-with_block}
+use Rattle.cpm_image.specs.declared.directory.entry.Entry.{Entry}
+use Rattle.cpm_image.specs.declared.directory.fault.DiskFault.TheVariants as fault
+use Rattle.cpm_image.specs.Directory.Entries.{at, blank, block, blocks_of, extent_number, is_extent, is_free, is_of, is_extent_of, new_extent, with_record}
+use Rattle.cpm_image.specs.Directory.Rules.{AreBlocks, AreSameExtent, IsBlock, IsSound}
+use Rattle.cpm_image.specs.Directory.Searches.{free_block, free_entry, file_is_read_only, is_file, is_taken}
 use Rattle.cpm_disk.specs.declared.placement.Placement.{Placement}
 use Rattle.cpm_disk.specs.Kept.{IsKeptBy}
 use Rattle.cpm_disk.specs.Steps.{block_place, extent_place, found_or_new, some_or, placing, unless, writing}

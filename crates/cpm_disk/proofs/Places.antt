@@ -6,8 +6,8 @@ use Rattle.cpm_disk.proofs.Numbers.{directory_within, record_of_entry}
 use Rattle.std.proofs.lemmas.Bool.{cases_eq}
 use Rattle.std.proofs.lemmas.List.FromFn.{get_or-map-range_with_len, length-map-range_with_len}
 use Rattle.cpm_image.specs.Skew.{sector_of}
-use Rattle.cpm_directory.specs.declared.entry.Entry.{Entry}
-use Rattle.cpm_directory.specs.Entries.{at, blank, entry_of}
+use Rattle.cpm_image.specs.declared.directory.entry.Entry.{Entry}
+use Rattle.cpm_image.specs.Directory.Entries.{at, blank, entry_of}
 use Rattle.cpm_disk.specs.Calls.{Changed}
 use Rattle.cpm_disk.specs.Image.{Image, IsOfDirectory, SameBut, Wrote, directory, entry_at, disk_record}
 

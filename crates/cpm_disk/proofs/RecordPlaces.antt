@@ -1,15 +1,15 @@
 -- A record that a file has is in the blocks for files.
 use Rattle.std.proofs.Common.{◌≡◌, ◌<◌, ◌≤◌, ◌/◌, ◌%◌, ◌==◌, ℕ, true, not, List, subst, sym, inl, inr, arith, nat_lt, Ok, find}
 use Rattle.std.proofs.lemmas.Bool.{and_parts, eqb-false, not-true, not-false}
-use Rattle.cpm_directory.specs.declared.entry.TheConstants.{USERS}
+use Rattle.cpm_image.specs.declared.directory.entry.TheConstants.{USERS}
 use Rattle.cpm_image.specs.Kind.{block_count, block_records, directory_records, file_records, first_block, record_count}
 use Rattle.cpm_image.specs.declared.kind.DiskKind.{DiskKind}
 use Rattle.cpm_image.specs.declared.kind.DiskKind.TheVariants.{EightInch, Megabyte}
-use Rattle.cpm_directory.specs.declared.entry.Entry.{Entry}
-use Rattle.cpm_directory.specs.declared.fault.DiskFault.TheVariants as fault
-use Rattle.cpm_directory.specs.Entries.{block, has_record, is_extent, is_extent_of, place_in_block, place_on_disk}
-use Rattle.cpm_directory.specs.Rules.{IsBlock, IsSound}
-use Rattle.cpm_directory.specs.Searches.{is_file}
+use Rattle.cpm_image.specs.declared.directory.entry.Entry.{Entry}
+use Rattle.cpm_image.specs.declared.directory.fault.DiskFault.TheVariants as fault
+use Rattle.cpm_image.specs.Directory.Entries.{block, has_record, is_extent, is_extent_of, place_in_block, place_on_disk}
+use Rattle.cpm_image.specs.Directory.Rules.{IsBlock, IsSound}
+use Rattle.cpm_image.specs.Directory.Searches.{is_file}
 use Rattle.cpm_disk.specs.Steps.{◌>>=◌, some_or, reading, written_place, unless}
 use Rattle.cpm_disk.proofs.Results.{bind_ok, given_ok, unless_ok}
 use Rattle.cpm_disk.proofs.Entries.{found_at}

@@ -1,8 +1,8 @@
 -- A write that is refused does not report a failure of the device.
 use Rattle.std.proofs.Common.{◌≡◌, ◌%◌, ℕ, false, List, Result, Err, refl}
 use Rattle.cpm_image.specs.Kind.{block_records}
-use Rattle.cpm_directory.specs.declared.fault.DiskFault.{DiskFault}
-use Rattle.cpm_directory.specs.declared.fault.DiskFault.TheVariants as fault
+use Rattle.cpm_image.specs.declared.directory.fault.DiskFault.{DiskFault}
+use Rattle.cpm_image.specs.declared.directory.fault.DiskFault.TheVariants as fault
 use Rattle.cpm_disk.specs.Refusals.{RefusesWriting}
 use Rattle.cpm_disk.specs.Steps.{writing}
 use Rattle.cpm_disk.specs.Calls.{Mounted, HasOutcome, PartlyWritten, Written}

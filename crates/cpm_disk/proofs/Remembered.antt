@@ -1,13 +1,13 @@
 -- A file that was written is not read-only.
 use Rattle.std.proofs.Common.{◌≡◌, ◌<◌, ◌/◌, ◌%◌, ℕ, false, not, nat_lt, List, Ok, ◌∙◌}
-use Rattle.cpm_directory.specs.declared.entry.TheConstants.{USERS}
+use Rattle.cpm_image.specs.declared.directory.entry.TheConstants.{USERS}
 use Rattle.cpm_image.specs.Kind.{block_records, file_records}
 use Rattle.cpm_image.specs.declared.kind.DiskKind.{DiskKind}
-use Rattle.cpm_directory.specs.declared.entry.Entry.{Entry}
-use Rattle.cpm_directory.specs.declared.fault.DiskFault.TheVariants as fault
-use Rattle.cpm_directory.specs.Entries.{block}
-use Rattle.cpm_directory.specs.Rules.{IsSound}
-use Rattle.cpm_directory.specs.Searches.{file_is_read_only, is_file}
+use Rattle.cpm_image.specs.declared.directory.entry.Entry.{Entry}
+use Rattle.cpm_image.specs.declared.directory.fault.DiskFault.TheVariants as fault
+use Rattle.cpm_image.specs.Directory.Entries.{block}
+use Rattle.cpm_image.specs.Directory.Rules.{IsSound}
+use Rattle.cpm_image.specs.Directory.Searches.{file_is_read_only, is_file}
 use Rattle.cpm_disk.specs.declared.placement.Placement.{Placement}
 use Rattle.cpm_disk.specs.Kept.{IsKeptBy}
 use Rattle.cpm_disk.specs.Steps.{placing, unless, writing}

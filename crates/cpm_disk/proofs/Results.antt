@@ -1,6 +1,6 @@
 -- The parts of an answer.
 use Rattle.std.proofs.Common.{◌≡◌, Bool, true, false, Option, Some, None, Result, Ok, Err, refl}
-use Rattle.cpm_directory.specs.declared.fault.DiskFault.{DiskFault}
+use Rattle.cpm_image.specs.declared.directory.fault.DiskFault.{DiskFault}
 use Rattle.cpm_disk.specs.Steps.{◌>>=◌, some_or, unless}
 
 pub bind_ok : {A B : Type 0} (r : Result A DiskFault) (f : A → Result B DiskFault) (y : B) → (r >>= f) ≡ Ok y → (x : A) × (r ≡ Ok x) × (f x ≡ Ok y)

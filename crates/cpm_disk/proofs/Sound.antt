@@ -2,9 +2,9 @@
 use Rattle.std.proofs.Common.{◌≡◌, ◌≢◌, ◌⊎◌, ◌<◌, ℕ, true, List, sym, ap, subst, ◌∙◌, inl, inr}
 use Rattle.cpm_image.specs.declared.kind.DiskKind.{DiskKind}
 use Rattle.std.proofs.lemmas.Bool.{cases_eq}
-use Rattle.cpm_directory.specs.declared.entry.Entry.{Entry}
-use Rattle.cpm_directory.specs.Entries.{at, block, is_extent}
-use Rattle.cpm_directory.specs.Rules.{AreBlocks, AreSameExtent, IsGood, IsSound}
+use Rattle.cpm_image.specs.declared.directory.entry.Entry.{Entry}
+use Rattle.cpm_image.specs.Directory.Entries.{at, block, is_extent}
+use Rattle.cpm_image.specs.Directory.Rules.{AreBlocks, AreSameExtent, IsGood, IsSound}
 
 -- each entry that is an extent is as it was
 pub fewer : (kind : DiskKind) (before mixed : List Entry) → IsSound kind before → ((k : ℕ) → is_extent (at mixed k) ≡ true → at mixed k ≡ at before k) → IsSound kind mixed

@@ -2,9 +2,9 @@
 use Rattle.std.proofs.Common.{◌≡◌, ◌⊎◌, ℕ, Bool, true, false, List, None, Option, Some, ◌++◌, drop, length, slice_set, take, sym, ap, subst, ◌∙◌, inl, inr, take_at, true≢false}
 use Rattle.cpm_image.specs.Kind.{entry_count}
 use Rattle.cpm_image.specs.declared.kind.DiskKind.{DiskKind}
-use Rattle.cpm_directory.specs.declared.entry.Entry.{Entry}
-use Rattle.cpm_directory.specs.Entries.{at}
-use Rattle.cpm_directory.specs.Searches.{file_is_read_only}
+use Rattle.cpm_image.specs.declared.directory.entry.Entry.{Entry}
+use Rattle.cpm_image.specs.Directory.Entries.{at}
+use Rattle.cpm_image.specs.Directory.Searches.{file_is_read_only}
 use Rattle.cpm_disk.specs.declared.placement.Placement.{Placement}
 use Rattle.cpm_disk.specs.Kept.{IsBetween, IsKeptBy, StaysSound}
 use Rattle.cpm_disk.specs.Calls.{Changed, PartlyChanged, PartlyWritten, Written}

@@ -6,10 +6,10 @@ use Rattle.cpm_disk.proofs.Numbers.{same_record, slot_below, some_files}
 use Rattle.std.proofs.lemmas.Bool.{and_parts, cases_Bool, cases_eq}
 use Rattle.std.proofs.lemmas.List.{set-get_or}
 use Rattle.std.specs.List.{list_any}
-use Rattle.cpm_directory.specs.declared.entry.TheConstants.{USERS}
-use Rattle.cpm_directory.specs.declared.entry.Entry.{Entry}
-use Rattle.cpm_directory.specs.Entries.{blocks_of, extent_number, at, blank, block, has_record, is_extent, is_extent_of, is_of, is_read_only, is_system}
-use Rattle.cpm_directory.specs.Rules.{IsSound}
+use Rattle.cpm_image.specs.declared.directory.entry.TheConstants.{USERS}
+use Rattle.cpm_image.specs.declared.directory.entry.Entry.{Entry}
+use Rattle.cpm_image.specs.Directory.Entries.{blocks_of, extent_number, at, blank, block, has_record, is_extent, is_extent_of, is_of, is_read_only, is_system}
+use Rattle.cpm_image.specs.Directory.Rules.{IsSound}
 use Rattle.cpm_disk.proofs.Entries.{below_extent, found_at, of_file}
 use Rattle.cpm_disk.specs.declared.placement.Placement.{Placement}
 use Rattle.cpm_disk.specs.Kept.{IsBetween, IsKeptBy}

@@ -1,16 +1,16 @@
 -- What the answer of a call guarantees.
 use Rattle.std.proofs.Common.{◌≡◌, ◌<◌, ◌≤◌, ℕ, not, List, length, Result, Ok, Err, IfOk, OnOk, sym, subst}
 use Rattle.std.proofs.lemmas.List.Quantifiers.{position-Some}
-use Rattle.cpm_directory.specs.declared.entry.TheConstants.{USERS}
+use Rattle.cpm_image.specs.declared.directory.entry.TheConstants.{USERS}
 use Rattle.cpm_image.specs.Kind.{directory_records, record_count}
 use Rattle.cpm_image.specs.declared.kind.DiskKind.{DiskKind}
-use Rattle.cpm_directory.specs.declared.entry.Entry.{Entry}
-use Rattle.cpm_directory.specs.declared.fault.DiskFault.{DiskFault}
-use Rattle.cpm_directory.specs.declared.fault.DiskFault.TheVariants as fault
-use Rattle.cpm_directory.specs.Entries.{blank, is_free, new_extent}
-use Rattle.cpm_directory.specs.Letters.{letters}
-use Rattle.cpm_directory.specs.Rules.{IsSound}
-use Rattle.cpm_directory.specs.Searches.{file_is_read_only, free_entry, is_file}
+use Rattle.cpm_image.specs.declared.directory.entry.Entry.{Entry}
+use Rattle.cpm_image.specs.declared.directory.fault.DiskFault.{DiskFault}
+use Rattle.cpm_image.specs.declared.directory.fault.DiskFault.TheVariants as fault
+use Rattle.cpm_image.specs.Directory.Entries.{blank, is_free, new_extent}
+use Rattle.cpm_image.specs.Directory.Letters.{letters}
+use Rattle.cpm_image.specs.Directory.Rules.{IsSound}
+use Rattle.cpm_image.specs.Directory.Searches.{file_is_read_only, free_entry, is_file}
 use Rattle.cpm_disk.specs.declared.placement.Placement.{Placement}
 use Rattle.cpm_disk.specs.Kept.{IsKeptBy, IsGoodPut, StaysSound}
 use Rattle.cpm_disk.specs.Steps.{◌>>=◌, after_renaming, creation, some_or, reading, renaming, unless, writing}

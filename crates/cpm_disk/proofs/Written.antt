@@ -4,14 +4,14 @@ use Rattle.cpm_image.specs.Kind.{block_count, block_records, file_records, first
 use Rattle.cpm_image.specs.declared.kind.DiskKind.{DiskKind}
 use Rattle.cpm_disk.proofs.Numbers.{number_below, outside_directory, same_block, same_record, slot_below, slot_of, some_files}
 use Rattle.cpm_disk.proofs.RecordPlaces.{place_within}
-use Rattle.cpm_directory.proofs.Words.{new_block, number_of_new, numbers-with_block}
+use Rattle.cpm_image.proofs.Words.{new_block, number_of_new, numbers-with_block}
 use Rattle.std.proofs.lemmas.Bool.{and_from, and_parts, cases_Bool, cases_eq, eqb-false, not-false}
 use Rattle.std.proofs.lemmas.List.Quantifiers.{position-Some}
-use Rattle.cpm_directory.specs.declared.entry.Entry.{Entry}
-use Rattle.cpm_directory.specs.declared.fault.DiskFault.TheVariants as fault
-use Rattle.cpm_directory.specs.Entries.{block_numbers, blocks_of, with_block, extent_number, place_in_block, at, blank, block, is_extent, is_extent_of, is_free, is_of, is_read_only, is_system, new_extent, place_on_disk, with_record}
-use Rattle.cpm_directory.specs.Rules.{IsSound}
-use Rattle.cpm_directory.specs.Searches.{file_is_read_only, free_block, free_entry, is_file}
+use Rattle.cpm_image.specs.declared.directory.entry.Entry.{Entry}
+use Rattle.cpm_image.specs.declared.directory.fault.DiskFault.TheVariants as fault
+use Rattle.cpm_image.specs.Directory.Entries.{block_numbers, blocks_of, with_block, extent_number, place_in_block, at, blank, block, is_extent, is_extent_of, is_free, is_of, is_read_only, is_system, new_extent, place_on_disk, with_record}
+use Rattle.cpm_image.specs.Directory.Rules.{IsSound}
+use Rattle.cpm_image.specs.Directory.Searches.{file_is_read_only, free_block, free_entry, is_file}
 use Rattle.cpm_disk.proofs.Entries.{found_at, below_extent, blank_is_not_of, of_file}
 use Rattle.cpm_disk.proofs.Placements.{IsBlockFor, IsPlace, block_found, none_placed, place_found}
 use Rattle.cpm_disk.proofs.Results.{bind_ok, given_ok, unless_ok}
@@ -23,7 +23,7 @@ use Rattle.cpm_disk.specs.Files.{HasRecord, count_of, block_record, in_block}
 use Rattle.cpm_disk.specs.Image.{Image, IsOfBlock, IsOfDirectory, SameBut, directory, disk_record}
 use Rattle.std.proofs.lemmas.List.Folds.{list_any_at}
 use Rattle.std.specs.List.{list_any}
-use Rattle.cpm_directory.specs.declared.entry.TheConstants.{USERS}
+use Rattle.cpm_image.specs.declared.directory.entry.TheConstants.{USERS}
 use Rattle.cpm_disk.proofs.Attributes.{any_put, any_same}
 use Rattle.cpm_disk.proofs.Files.{Alike, find_alike, same_stored}
 use Rattle.cpm_disk.proofs.Maps.{extent_found, find_none, range_of}

@@ -2,17 +2,17 @@
 -- blocks, and
 -- two attributes. An extent has record i if i is below its count and its block is there. (CP/M 2.2 Alteration Guide, the directory.)
 use Rattle.std.specs.Prelude.{◌≡◌, ◌≢◌, ◌<◌, ◌⊎◌, ◌+◌, ◌/◌, ◌%◌, ◌==◌, max, replicate, unwrap_or, ℕ, true, false, List, Option, Some, None, find, if◌then◌else◌, option_and_then, option_map, Bool}
-use Rattle.cpm_directory.specs.declared.attribute.Attribute.{Attribute}
-use Rattle.cpm_directory.specs.declared.attribute.Attribute.TheVariants as attribute
-use Rattle.cpm_directory.specs.declared.entry.TheConstants.{USERS}
-use Rattle.cpm_directory.specs.declared.layout.TheConstants.{EXTENT_RECORDS}
+use Rattle.cpm_image.specs.declared.directory.attribute.Attribute.{Attribute}
+use Rattle.cpm_image.specs.declared.directory.attribute.Attribute.TheVariants as attribute
+use Rattle.cpm_image.specs.declared.directory.entry.TheConstants.{USERS}
+use Rattle.cpm_image.specs.declared.directory.layout.TheConstants.{EXTENT_RECORDS}
 use Rattle.cpm_image.specs.declared.format.TheConstants.{RECORD_BYTES}
 use Rattle.cpm_image.specs.Kind.{block_records}
 use Rattle.cpm_image.specs.declared.kind.DiskKind.{DiskKind}
-use Rattle.cpm_directory.specs.declared.entry.Entry.{Entry}
-use Rattle.cpm_directory.specs.Entries.{block, has_record, is_extent_of, place_on_disk}
-use Rattle.cpm_directory.specs.Letters.{name_matches}
-use Rattle.cpm_directory.specs.Searches.{file_is_read_only, file_is_system, is_file}
+use Rattle.cpm_image.specs.declared.directory.entry.Entry.{Entry}
+use Rattle.cpm_image.specs.Directory.Entries.{block, has_record, is_extent_of, place_on_disk}
+use Rattle.cpm_image.specs.Directory.Letters.{name_matches}
+use Rattle.cpm_image.specs.Directory.Searches.{file_is_read_only, file_is_system, is_file}
 use Rattle.cpm_disk.specs.Image.{Image, directory, disk_record}
 
 -- the number of records in an extent of a file

@@ -4,9 +4,9 @@ use Rattle.std.specs.List.{range_with_len}
 use Rattle.cpm_image.specs.Kind.{block_records, directory_records, entry_count, record_count}
 use Rattle.cpm_image.specs.Skew.{sector_of}
 use Rattle.cpm_image.specs.declared.kind.DiskKind.{DiskKind}
-use Rattle.cpm_directory.specs.declared.entry.Entry.{Entry}
-use Rattle.cpm_directory.specs.declared.layout.TheConstants.{ENTRY_BYTES, RECORD_ENTRIES}
-use Rattle.cpm_directory.specs.Entries.{entry_of}
+use Rattle.cpm_image.specs.declared.directory.entry.Entry.{Entry}
+use Rattle.cpm_image.specs.declared.directory.layout.TheConstants.{ENTRY_BYTES, RECORD_ENTRIES}
+use Rattle.cpm_image.specs.Directory.Entries.{entry_of}
 
 -- the sectors of a device, each a list of bytes
 abbrev pub Image : Type 0

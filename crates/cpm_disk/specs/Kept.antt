@@ -1,11 +1,11 @@
 -- Directories between an old one and a new one: if a device fails, each entry is as it was or as it was to be.
 use Rattle.std.specs.Prelude.{◌≡◌, ◌≢◌, ◌<◌, ◌≤◌, ◌⊎◌, ℕ, List, length, slice_set, true}
-use Rattle.cpm_directory.specs.declared.entry.Entry.{Entry}
+use Rattle.cpm_image.specs.declared.directory.entry.Entry.{Entry}
 use Rattle.cpm_image.specs.Kind.{block_count, first_block}
 use Rattle.cpm_image.specs.declared.kind.DiskKind.{DiskKind}
 use Rattle.cpm_disk.specs.declared.placement.Placement.{Placement}
-use Rattle.cpm_directory.specs.Entries.{at, block, is_extent, is_free, is_of}
-use Rattle.cpm_directory.specs.Rules.{IsSound}
+use Rattle.cpm_image.specs.Directory.Entries.{at, block, is_extent, is_free, is_of}
+use Rattle.cpm_image.specs.Directory.Rules.{IsSound}
 
 -- each entry is that of the old directory or that of the new one
 abbrev pub IsBetween : List Entry → List Entry → List Entry → Type 0

@@ -7,4 +7,5 @@ pub mod Files
 pub mod Image
 pub mod Mounting
 pub mod Operations
+pub mod Control
 pub mod Private

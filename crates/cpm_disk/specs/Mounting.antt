@@ -3,12 +3,12 @@ use Rattle.std.specs.Prelude.{◌≡◌, ℕ, length, true, false, List, Result,
 use Rattle.cpm_image.specs.Device.{HasRisen}
 use Rattle.cpm_image.specs.Kind.{IsDiskSize, sector_count}
 use Rattle.cpm_image.specs.declared.kind.DiskKind.{DiskKind}
-use Rattle.cpm_directory.specs.declared.broken.Broken.{Broken}
-use Rattle.cpm_directory.specs.declared.fault.DiskFault.{DiskFault}
-use Rattle.cpm_directory.specs.declared.fault.DiskFault.TheVariants as fault
-use Rattle.cpm_directory.specs.declared.listing.Listed.{Listed}
-use Rattle.cpm_directory.specs.Rules.{AreBroken, IsFirstFault, IsRuleFault, IsSound}
-use Rattle.cpm_directory.specs.Searches.{IsListing}
+use Rattle.cpm_image.specs.declared.directory.broken.Broken.{Broken}
+use Rattle.cpm_image.specs.declared.directory.fault.DiskFault.{DiskFault}
+use Rattle.cpm_image.specs.declared.directory.fault.DiskFault.TheVariants as fault
+use Rattle.cpm_image.specs.declared.directory.listing.Listed.{Listed}
+use Rattle.cpm_image.specs.Directory.Rules.{AreBroken, IsFirstFault, IsRuleFault, IsSound}
+use Rattle.cpm_image.specs.Directory.Searches.{IsListing}
 use Rattle.cpm_disk.specs.Calls.{Mounted}
 use Rattle.cpm_disk.specs.Image.{Image, directory}
 

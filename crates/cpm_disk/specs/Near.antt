@@ -2,9 +2,9 @@
 use Rattle.std.specs.Prelude.{◌≡◌, ◌<◌, ◌/◌, ℕ, List, length, true}
 use Rattle.cpm_image.specs.Kind.{file_records}
 use Rattle.cpm_image.specs.declared.kind.DiskKind.{DiskKind}
-use Rattle.cpm_directory.specs.declared.entry.Entry.{Entry}
-use Rattle.cpm_directory.specs.declared.layout.TheConstants.{EXTENT_RECORDS}
-use Rattle.cpm_directory.specs.Entries.{at, is_extent_of}
+use Rattle.cpm_image.specs.declared.directory.entry.Entry.{Entry}
+use Rattle.cpm_image.specs.declared.directory.layout.TheConstants.{EXTENT_RECORDS}
+use Rattle.cpm_image.specs.Directory.Entries.{at, is_extent_of}
 
 -- a file can have a record with this number, and entry k is that of its extent
 pub record IsExtentAt (kind : DiskKind) (user : ℕ) (name : List ℕ) (number : ℕ) (entries : List Entry) (k : ℕ) : Type 0 where

@@ -1,8 +1,8 @@
 -- What each call of a mounted disk that changes or reads records answers and leaves.
 use Rattle.std.specs.Prelude.{◌≡◌, ◌%◌, ℕ, Bool, List, Result, slice_set}
 use Rattle.cpm_image.specs.Kind.{block_records}
-use Rattle.cpm_directory.specs.declared.attribute.Attribute.{Attribute}
-use Rattle.cpm_directory.specs.declared.fault.DiskFault.{DiskFault}
+use Rattle.cpm_image.specs.declared.directory.attribute.Attribute.{Attribute}
+use Rattle.cpm_image.specs.declared.directory.fault.DiskFault.{DiskFault}
 use Rattle.cpm_disk.specs.Steps.{after_erasure, after_marking, after_renaming, creation, erasure, marking, reading, renaming, writing}
 use Rattle.cpm_disk.specs.Calls.{Changed, Mounted, HasOutcome, PartlyChanged, PartlyWritten, Written}
 use Rattle.cpm_disk.specs.Image.{Image, directory, disk_record}

@@ -1,7 +1,7 @@
 -- The refusals that each operation can give.
 use Rattle.std.specs.Prelude.{⊤}
-use Rattle.cpm_directory.specs.declared.fault.DiskFault.{DiskFault}
-use Rattle.cpm_directory.specs.declared.fault.DiskFault.TheVariants as fault
+use Rattle.cpm_image.specs.declared.directory.fault.DiskFault.{DiskFault}
+use Rattle.cpm_image.specs.declared.directory.fault.DiskFault.TheVariants as fault
 
 abbrev pub RefusesCreation : DiskFault → Type 0
 RefusesCreation fault.Exists = ⊤

@@ -3,14 +3,14 @@ use Rattle.std.specs.Prelude.{ℕ, ◌/◌, ◌%◌, ◌==◌, Bool, true, false
 use Rattle.std.specs.List.{list_any}
 use Rattle.cpm_image.specs.Kind.{block_records, file_records}
 use Rattle.cpm_image.specs.declared.kind.DiskKind.{DiskKind}
-use Rattle.cpm_directory.specs.declared.attribute.Attribute.{Attribute}
-use Rattle.cpm_directory.specs.declared.entry.Entry.{Entry}
-use Rattle.cpm_directory.specs.declared.fault.DiskFault.{DiskFault}
-use Rattle.cpm_directory.specs.declared.layout.TheConstants.{EXTENT_RECORDS}
+use Rattle.cpm_image.specs.declared.directory.attribute.Attribute.{Attribute}
+use Rattle.cpm_image.specs.declared.directory.entry.Entry.{Entry}
+use Rattle.cpm_image.specs.declared.directory.fault.DiskFault.{DiskFault}
+use Rattle.cpm_image.specs.declared.directory.layout.TheConstants.{EXTENT_RECORDS}
 use Rattle.cpm_disk.specs.declared.placement.Placement.{Placement}
-use Rattle.cpm_directory.specs.declared.fault.DiskFault.TheVariants as fault
-use Rattle.cpm_directory.specs.Entries.{at, block, erased, has_record, is_extent_of, is_match, is_of, is_read_only, marked, new_extent, place_on_disk, renamed, with_record}
-use Rattle.cpm_directory.specs.Searches.{file_is_read_only, free_block, free_entry, is_file}
+use Rattle.cpm_image.specs.declared.directory.fault.DiskFault.TheVariants as fault
+use Rattle.cpm_image.specs.Directory.Entries.{at, block, erased, has_record, is_extent_of, is_match, is_of, is_read_only, marked, new_extent, place_on_disk, renamed, with_record}
+use Rattle.cpm_image.specs.Directory.Searches.{file_is_read_only, free_block, free_entry, is_file}
 pub use Rattle.common.specs.Results.{◌>>=◌}
 
 -- refuses with `e` if the test is true, and otherwise continues with `rest`

@@ -9,8 +9,7 @@ ghost use Rattle.cpm_disk.specs.Image.{IsOfBlock, SameBut, directory, disk_recor
 
 use crate::placement::Placement;
 use crate::records::{store, write_record};
-use cpm_directory::Entry;
-use cpm_image::{DeviceFault, DiskKind, LogicalRecord, RECORD_BYTES, Sectors};
+use cpm_image::{DeviceFault, DiskKind, Entry, LogicalRecord, RECORD_BYTES, Sectors};
 
 /// The logical record of the disk that is record `i` of a block.
 fn record_of(kind: DiskKind, block: u16, i: u32) -> LogicalRecord

@@ -8,8 +8,7 @@ ghost use Rattle.cpm_disk.specs.Calls.{Changed, PartlyChanged};
 ghost use Rattle.cpm_disk.specs.Private.Changes.{after};
 
 use crate::records::store;
-use cpm_directory::{Attribute, Entry, Name};
-use cpm_image::{DeviceFault, DiskKind, Sectors};
+use cpm_image::{Attribute, DeviceFault, DiskKind, Entry, Name, Sectors};
 
 /// A change of directory entries.
 #[derive(Clone, Copy, Debug, PartialEq, Eq)]

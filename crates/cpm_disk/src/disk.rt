@@ -1,7 +1,7 @@
 //! Mounted disks.
 
 ghost use Rattle.std.specs.Prelude.{◌≡◌, Bool};
-ghost use Rattle.cpm_directory.specs.declared.entry.TheConstants.{USERS};
+ghost use Rattle.cpm_image.specs.declared.directory.entry.TheConstants.{USERS};
 ghost use Rattle.cpm_disk.specs.Private.State.{IsMounted};
 ghost use Rattle.cpm_disk.specs.Calls.{Mounted};
 
@@ -13,12 +13,11 @@ use crate::operations::{creation, erasure, marking, renaming};
 use crate::reader::read_entries;
 use crate::records::{read_record, store};
 use crate::writable::{Writable, is_known};
-use cpm_directory::laws::{are_entries, is_name};
-use cpm_directory::{
-    Attribute, DiskFault, ENTRY_BYTES, Entry, Listed, Name, Pattern, Space, Usage, find, judge,
-    list, position_of, size, space_of, usage_of,
+use cpm_image::laws::{are_entries, is_name};
+use cpm_image::{
+    Attribute, BLANK, DiskFault, DiskKind, ENTRY_BYTES, Entry, Listed, MemoryImage, Name, Pattern,
+    RECORD_BYTES, Sectors, Space, Usage, find, judge, list, position_of, size, space_of, usage_of,
 };
-use cpm_image::{BLANK, DiskKind, MemoryImage, RECORD_BYTES, Sectors};
 use std::alloc::{AllocError, Global};
 use std::marker::Model;
 
@@ -52,10 +51,10 @@ impl<S: Sectors> Model for Disk<S> {
 impl<S: Sectors> Disk<S> {
     ghost use Rattle.std.specs.Prelude.{◌≡◌, ◌<◌, ◌≤◌, ◌*◌, ◌+◌, ◌%◌, ◌⊎◌, IfErr, IfSome, OnErr, position, Option, None, Result, replicate, length, if◌then◌else◌, slice_set, ℕ, List, Some, true, IfOk, OnOk};
     ghost use Rattle.cpm_image.specs.Kind.{entry_count, file_records, sector_count};
-    ghost use Rattle.cpm_directory.specs.Entries.{at, bytes_of, is_extent_of};
-    ghost use Rattle.cpm_directory.specs.Letters.{name_matches};
-    ghost use Rattle.cpm_directory.specs.Rules.{IsSound};
-    ghost use Rattle.cpm_directory.specs.Searches.{found_from, no_space, no_usage, size, space_of, usage_of};
+    ghost use Rattle.cpm_image.specs.Directory.Entries.{at, bytes_of, is_extent_of};
+    ghost use Rattle.cpm_image.specs.Directory.Letters.{name_matches};
+    ghost use Rattle.cpm_image.specs.Directory.Rules.{IsSound};
+    ghost use Rattle.cpm_image.specs.Directory.Searches.{found_from, no_space, no_usage, size, space_of, usage_of};
     ghost use Rattle.cpm_disk.specs.Refusals.{RefusesCreation, RefusesErasure, RefusesMarking, RefusesReading, RefusesRenaming, RefusesWriting};
     ghost use Rattle.cpm_disk.specs.Calls.{FailsOr};
     ghost use Rattle.cpm_disk.specs.Files.{HasRecord, HasSameRecords, IsEither, IsFile, IsMarkedFile, IsMatched, IsMoved, IsNewFile, IsNoFile, OthersAreSame, file_record};

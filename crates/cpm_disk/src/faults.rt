@@ -4,8 +4,7 @@ ghost use Rattle.std.specs.Prelude.{◌≡◌};
 ghost use Rattle.cpm_disk.specs.Mounting.{AreFaultsOf};
 
 use crate::reader::read_entries;
-use cpm_directory::{Broken, DiskFault, faults};
-use cpm_image::{DiskKind, Sectors};
+use cpm_image::{Broken, DiskFault, DiskKind, Sectors, faults};
 use std::alloc::Global;
 
 /// The entries of a device's directory that break a rule, in their order, each with the first rule that it breaks. There are none if the

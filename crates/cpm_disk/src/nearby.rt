@@ -1,10 +1,10 @@
 //! Finds records of a file faster: the entry of the extent is tried at one number first.
 
 ghost use Rattle.std.specs.Prelude.{◌≡◌, ◌<◌, ◌≤◌, ◌/◌, ◌%◌, IfErr, IfOk, IfSome, None, false, length, position, slice_index_or, true};
-ghost use Rattle.cpm_directory.specs.declared.entry.TheConstants.{USERS};
-ghost use Rattle.cpm_directory.specs.Entries.{blank, block, is_extent_of};
-ghost use Rattle.cpm_directory.specs.Rules.{IsSound};
-ghost use Rattle.cpm_directory.specs.Searches.{file_is_read_only};
+ghost use Rattle.cpm_image.specs.declared.directory.entry.TheConstants.{USERS};
+ghost use Rattle.cpm_image.specs.Directory.Entries.{blank, block, is_extent_of};
+ghost use Rattle.cpm_image.specs.Directory.Rules.{IsSound};
+ghost use Rattle.cpm_image.specs.Directory.Searches.{file_is_read_only};
 ghost use Rattle.cpm_image.specs.Kind.{block_records, directory_records, file_records, record_count};
 ghost use Rattle.cpm_disk.specs.Kept.{IsKeptBy};
 ghost use Rattle.cpm_disk.specs.Near.{IsExtentAt};
@@ -13,8 +13,7 @@ ghost use Rattle.cpm_disk.specs.Steps.{reading, writing};
 
 use crate::operations::{place_in, reading, record_of, writing};
 use crate::placement::Placement;
-use cpm_directory::{DiskFault, EXTENT_RECORDS, Entry, Name, position_of};
-use cpm_image::{DiskKind, LogicalRecord};
+use cpm_image::{DiskFault, DiskKind, EXTENT_RECORDS, Entry, LogicalRecord, Name, position_of};
 
 /// Whether the entry with this number is that of a file's extent.
 fn is_extent_at(entries: &[Entry], at: u16, user: u8, name: &Name, extent: u16) -> bool

@@ -2,10 +2,10 @@
 
 ghost use Rattle.std.specs.Prelude.{◌≡◌, ◌<◌, ◌≤◌, ◌/◌, ◌%◌, ◌&&◌, Bool, IfErr, IfOk, OnOk, count_by, find, length};
 ghost use Rattle.std.specs.List.{list_any};
-ghost use Rattle.cpm_directory.specs.declared.attribute.Attribute.{Attribute};
-ghost use Rattle.cpm_directory.specs.declared.entry.TheConstants.{USERS};
-ghost use Rattle.cpm_directory.specs.Entries.{block, is_extent_of, is_match, is_of, is_read_only};
-ghost use Rattle.cpm_directory.specs.Rules.{IsSound};
+ghost use Rattle.cpm_image.specs.declared.directory.attribute.Attribute.{Attribute};
+ghost use Rattle.cpm_image.specs.declared.directory.entry.TheConstants.{USERS};
+ghost use Rattle.cpm_image.specs.Directory.Entries.{block, is_extent_of, is_match, is_of, is_read_only};
+ghost use Rattle.cpm_image.specs.Directory.Rules.{IsSound};
 ghost use Rattle.cpm_image.specs.Kind.{block_records, directory_records, entry_blocks, file_records, number_limit, record_count};
 ghost use Rattle.cpm_image.specs.declared.kind.DiskKind.{DiskKind};
 ghost use Rattle.cpm_disk.specs.Kept.{IsKeptBy, IsGoodPut, StaysSound};
@@ -13,12 +13,11 @@ ghost use Rattle.cpm_disk.specs.Refusals.{RefusesCreation, RefusesErasure, Refus
 ghost use Rattle.cpm_disk.specs.Steps.{after_erasure, after_marking, after_renaming, block_place, creation, erasure, extent_place, marking, placing, placing_in, reading, renaming, writing, written_place};
 
 use crate::placement::Placement;
-use cpm_directory::laws::is_name;
-use cpm_directory::{
-    DiskFault, EXTENT_RECORDS, Entry, Name, file_is_read_only, free_block, free_entry, is_file,
-    position_of,
+use cpm_image::laws::is_name;
+use cpm_image::{
+    DiskFault, DiskKind, EXTENT_RECORDS, Entry, LogicalRecord, Name, file_is_read_only, free_block,
+    free_entry, is_file, position_of,
 };
-use cpm_image::{DiskKind, LogicalRecord};
 
 /// The entry of a new file, and its number, the lowest that is free.
 fn new_file(entries: &[Entry], user: u8, name: &Name) -> Result<(u16, Entry), DiskFault>

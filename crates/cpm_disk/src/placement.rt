@@ -1,6 +1,6 @@
 //! Where to write a record.
 
-use cpm_directory::Entry;
+use cpm_image::Entry;
 
 /// Where to write a record.
 #[derive(Clone, Copy, Debug, PartialEq, Eq)]

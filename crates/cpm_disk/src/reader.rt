@@ -2,14 +2,13 @@
 
 ghost use Rattle.std.specs.Prelude.{◌≡◌, IfErr, IfOk, OnOk, length};
 ghost use Rattle.cpm_image.specs.Kind.{sector_count};
-ghost use Rattle.cpm_directory.specs.declared.fault.DiskFault.TheVariants as DiskFault;
-ghost use Rattle.cpm_directory.specs.declared.layout.TheConstants.{RECORD_ENTRIES};
+ghost use Rattle.cpm_image.specs.declared.directory.fault.DiskFault.TheVariants as DiskFault;
+ghost use Rattle.cpm_image.specs.declared.directory.layout.TheConstants.{RECORD_ENTRIES};
 ghost use Rattle.cpm_disk.specs.Image.{directory};
 ghost use Rattle.cpm_disk.specs.Private.Reading.{Extended, IsReadFault};
 
 use crate::records::read_record;
-use cpm_directory::{DiskFault, ENTRY_BYTES, Entry};
-use cpm_image::{DiskKind, LogicalRecord, RECORD_BYTES, Sectors};
+use cpm_image::{DiskFault, DiskKind, ENTRY_BYTES, Entry, LogicalRecord, RECORD_BYTES, Sectors};
 use std::alloc::Global;
 
 /// Adds the four entries of a directory record.

@@ -3,12 +3,14 @@
 ghost use Rattle.std.specs.Prelude.{◌≡◌, ◌⊎◌, ◌<◌, ◌≤◌, ◌+◌, ◌*◌, ◌/◌, ℕ, drop, length, OnErr, OnOk, slice_set, take};
 ghost use Rattle.cpm_image.specs.Device.{HasCountedFault};
 ghost use Rattle.cpm_image.specs.Kind.{entry_count, record_count, sector_count};
-ghost use Rattle.cpm_directory.specs.Entries.{at, entry_of};
+ghost use Rattle.cpm_image.specs.Directory.Entries.{at, entry_of};
 ghost use Rattle.cpm_disk.specs.Image.{SameBut, Wrote, directory, disk_record};
 ghost use Rattle.cpm_disk.specs.Calls.{Changed};
 
-use cpm_directory::{ENTRY_BYTES, Entry, RECORD_ENTRIES};
-use cpm_image::{DeviceFault, DiskKind, LogicalRecord, RECORD_BYTES, Sectors, logical_of};
+use cpm_image::{
+    DeviceFault, DiskKind, ENTRY_BYTES, Entry, LogicalRecord, RECORD_BYTES, RECORD_ENTRIES,
+    Sectors, logical_of,
+};
 
 /// The number of entries in a directory record, for indices.
 const ENTRIES_IN_RECORD: usize = RECORD_ENTRIES as usize;

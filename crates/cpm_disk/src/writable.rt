@@ -3,7 +3,7 @@
 ghost use Rattle.std.specs.Prelude.{◌≡◌};
 ghost use Rattle.cpm_disk.specs.Private.State.{is_known};
 
-use cpm_directory::Name;
+use cpm_image::Name;
 
 /// The user and the name of a file that is not read-only.
 #[derive(Clone, Copy)]

@@ -1,2 +1,17 @@
 pub mod Places
 pub mod Bytes
+pub mod AllFaults
+pub mod EntryBytes
+pub mod Counts
+pub mod Elements
+pub mod FileList
+pub mod FirstFault
+pub mod Judgement
+pub mod Marks
+pub mod Names
+pub mod OneList
+pub mod Order
+pub mod OwnBlocks
+pub mod Sizes
+pub mod TakenBlocks
+pub mod Words

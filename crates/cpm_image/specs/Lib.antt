@@ -3,3 +3,5 @@ pub mod Failing
 pub mod Device
 pub mod Skew
 pub mod Image
+pub mod Directory
+pub mod Private

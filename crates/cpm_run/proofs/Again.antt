@@ -1,8 +1,10 @@
 -- A session that is played again from its own record ends as it did.
-use Rattle.std.proofs.Common.{◌≡◌, ◌≢◌, ◌<◌, ◌≤◌, ◌+◌, ◌++◌, ◌∷◌, ◌⊎◌, [], ℕ, zero, suc, true, false, List, Option, Some, None, get_or, length, slice_get, take, refl, sym, ap, subst, ◌∙◌, arith, inl, inr, length-append}
+use Rattle.std.proofs.Common.{◌≡◌, ◌≢◌, ◌<◌, ◌≤◌, ◌+◌, ◌++◌, ◌∷◌, ◌⊎◌, [], ℕ, zero, suc, true, false, List, Option, Some, None, get_or, length, slice_get, take, refl, sym, ap, subst, ◌∙◌, arith, append-nil, inl, inr, length-append}
+use Rattle.std.proofs.KnownBytes.{Keeps-refl}
 use Rattle.std.proofs.lemmas.Bool.{cases_eq, cases_lt}
 use Rattle.std.proofs.lemmas.List.{take-append-le, take_all}
 use Rattle.std.proofs.lemmas.Option.{slice_get-get_or, slice_get_within}
+use Rattle.std.specs.Io.KnownBytes.{Keeps}
 use Rattle.z80_cpu.specs.State.{Machine}
 use Rattle.z80_cpu.specs.declared.registers.Cpu.{Cpu}
 use Rattle.cpm_console.specs.Dialog.{Dialog}
@@ -17,12 +19,14 @@ use Rattle.cpm_run.specs.declared.ending.Why.TheVariants as why
 use Rattle.cpm_run.specs.declared.fault.StartFault.{StartFault}
 use Rattle.cpm_run.specs.declared.fault.StartFault.TheVariants as fault
 use Rattle.cpm_run.specs.Run.{unstarted}
-use Rattle.cpm_run.specs.Seat.{Seat}
-use Rattle.cpm_run.specs.Play.{EndsBy, FollowsRecord, IsInOrder, IsPlayed, IsReplayed, PlayedRunEnds, PlayEnds, PlayState, PlaysOn, ReplayEnds, first_state}
+use Rattle.cpm_console.specs.Seat.{Seat}
+use Rattle.cpm_run.specs.AlikeSessions.{AlikeSessions, IsEchoAfter, SameShown}
+use Rattle.cpm_run.specs.Play.{EndsBy, FollowsRecord, IsEcho, IsInOrder, IsPlayed, IsReplayed, IsShownAgain, PlayedRunEnds, PlayEnds, PlayState, PlaysOn, ReplayEnds, Sees, due_from, first_state}
 use Rattle.cpm_run.specs.Turns.{IsTurn, RunState, is_finished}
 use Rattle.cpm_run.specs.Undisturbed.{EndsUndisturbed, IsUndisturbed}
+use Rattle.cpm_run.proofs.Due.{due_same, last_same}
 use Rattle.cpm_run.proofs.OneRun.{OneStep, had_memory, none_well, not_both, one_refusal, some_well}
-use Rattle.cpm_run.proofs.OneSession.{Walk, alike, at_end, step_both, walk_of}
+use Rattle.cpm_run.proofs.OneSession.{Walk, alike, at_end, between, step_both, walk_of}
 use Rattle.cpm_run.proofs.OneSession.Walk.{begin, step, byte, show}
 use Rattle.cpm_run.proofs.Ordered.{bytes_in_order, walk_in_order}
 
@@ -271,8 +275,7 @@ module _ {S : Type 0} (sectors : S → Image) (faults : S → ℕ) (one_step : O
             (rest_alike end cause a b one two turns machine, turns, machine, subst (λ (d : Mounted S). AlikeDisks sectors d b.run.system.disk) same.1 both.system.disk)
       ]
 
-  first_ends : (reason : Why) (cause : PlayEnd) (a b : PlayState S) → IsUndisturbed reason → EndsBy sectors faults first reason a → PlaysOn sectors faults again b → Rests cause b → (cause ≡ play.Left → a.turns ≤ b.turns) → a.turns ≤ limit → FollowsRecord a.arrivals a.turns b.turns b.arrivals
-      → OneEnd (play.Run reason) cause a b
+  first_ends : {A : Type 0} (reason : Why) (cause : PlayEnd) (a b : PlayState S) → IsUndisturbed reason → EndsBy sectors faults first reason a → PlaysOn sectors faults again b → Rests cause b → (cause ≡ play.Left → a.turns ≤ b.turns) → a.turns ≤ limit → FollowsRecord a.arrivals a.turns b.turns b.arrivals → A
   first_ends reason cause a b calm (last, plays, going, turn, count, had, shown) also two left most f =
       let walk = walk_of sectors faults plays in
       let steps = walk_of sectors faults also in
@@ -319,12 +322,18 @@ module _ {S : Type 0} (sectors : S → Image) (faults : S → ℕ) (one_step : O
   pub one_end : (end cause : PlayEnd) (a b : PlayState S) → EndsWell first end a → EndsWell again cause b → (cause ≡ play.Left → a.turns ≤ b.turns) → a.turns ≤ limit → FollowsRecord a.arrivals a.turns b.turns b.arrivals → OneEnd end cause a b
   one_end end cause a b (inl h) (inl k) left most f = both_rest end cause a b h.0 h.1 k.0 k.1 left most f
   one_end end cause a b (inl h) (inr k) left most f = not_ended a b k.0 f.count (walk_of sectors faults h.0) k.2 k.3 f.within f.front f.later
-  one_end end cause a b (inr h) (inl k) left most f =
-      let both = first_ends h.0 cause a b h.2 h.3 k.0 k.1 left most f in
-      (both.0 ∙ sym h.1, both.1, both.2, both.3)
+  one_end end cause a b (inr h) (inl k) left most f = first_ends h.0 cause a b h.2 h.3 k.0 k.1 left most f
   one_end end cause a b (inr h) (inr k) left most f =
       let both = both_end h.0 k.0 a b h.2 k.2 h.3 k.3 f in
       (k.1 ∙ both.0 ∙ sym h.1, both.1, both.2, both.3)
+
+  -- so both sessions look alike at their ends, if the same bytes came
+  pub one_alike : (end cause : PlayEnd) (a b : PlayState S) → EndsWell first end a → EndsWell again cause b → (cause ≡ play.Left → a.turns ≤ b.turns) → a.turns ≤ limit → FollowsRecord a.arrivals a.turns b.turns b.arrivals
+      → b.arrivals ≡ a.arrivals → b.turns ≡ a.turns → AlikeSessions sectors a b
+  one_alike end cause a b (inl h) (inl k) left most f arrivals turns = between sectors faults one_step cpu memory disk other disks a b h.0 k.0 arrivals turns
+  one_alike end cause a b (inl h) (inr k) left most f arrivals turns = not_ended a b k.0 f.count (walk_of sectors faults h.0) k.2 k.3 f.within f.front f.later
+  one_alike end cause a b (inr h) (inl k) left most f arrivals turns = first_ends h.0 cause a b h.2 h.3 k.0 k.1 left most f
+  one_alike end cause a b (inr h) (inr k) left most f arrivals turns = (at_end sectors faults one_step cpu memory disk other disks a b h.0 k.0 h.2 k.2 h.3 k.3 arrivals turns).1
 
 -- all bytes of a record came that came before the last step
 all_again : (turns : ℕ) (recorded came : List Arrival) (end : PlayEnd) → (end ≡ play.Left) ⊎ AllSooner turns recorded → FollowsRecord recorded turns turns came → (end ≡ play.Left → came ≡ recorded) → came ≡ recorded
@@ -339,18 +348,69 @@ none_after turns arrivals play.Left calm before = inl refl
 none_after turns arrivals play.Failed calm before = absurd calm
 none_after turns arrivals play.NoMemory calm before = absurd calm
 
+-- ---- what the screen got
+
+one_known : (xs ys : List ℕ) (output : Option (List ℕ)) → output ≡ Some xs → output ≡ Some ys → xs ≡ ys
+one_known xs ys output one two = let both : ◌≡◌ {A = Option (List ℕ)} (Some xs) (Some ys) = sym one ∙ two in cc
+
+-- all that was put is shown, and then such an echo
+abbrev ShowsPut : {S : Type 0} → PlayEnd → Seat → Seat → PlayState S → List ℕ → Type 0
+ShowsPut end before after s put = (echo : List ℕ) × ((more : List ℕ) → Keeps (before.screen (s.shown ++ put ++ echo ++ more)) (after.screen more)) × (end ≢ play.Left → echo ≡ []) × (end ≡ play.Left → IsEcho s.run echo)
+
+put_in_first : {S : Type 0} (end : PlayEnd) (before after : Seat) (s : PlayState S) (put : List ℕ) → EndsUndisturbed end → Sees end before after s → s.run.system.terminal.console.output ≡ Some put → ShowsPut end before after s put
+put_in_first (play.Run reason) before after s put calm (came, last, (bytes, known, all)) is =
+    let same = ap (λ (l : List ℕ). s.shown ++ l) (one_known bytes put s.run.system.terminal.console.output known is) ∙ sym (append-nil (s.shown ++ put)) in
+    ([], (λ more. subst (λ (l : List ℕ). Keeps (before.screen (l ++ more)) (after.screen more)) same (all more)), (λ other. refl), λ left. absurd cc)
+put_in_first play.Left before after s put calm (left, known, (echo, is_echo, all)) is =
+    let same = sym (append-nil s.shown) ∙ ap (λ (l : List ℕ). s.shown ++ l) (one_known [] put s.run.system.terminal.console.output known is) in
+    (echo, (λ more. subst (λ (l : List ℕ). Keeps (before.screen (l ++ echo ++ more)) (after.screen more)) same (all more)), (λ other. absurd (other refl)), λ e. is_echo)
+put_in_first play.Failed before after s put calm sees is = absurd calm
+put_in_first play.NoMemory before after s put calm sees is = absurd calm
+
+not_failed : (end : PlayEnd) → EndsUndisturbed end → end ≢ play.Failed
+not_failed end calm is = subst EndsUndisturbed is calm
+
+same_shown : {S : Type 0} (sectors : S → Image) (IsLineEcho : List ℕ → Type 0) (end cause : PlayEnd) (before after seat screen : Seat) (a b : PlayState S) → EndsUndisturbed end → EndsUndisturbed cause → Sees end before after a → IsShownAgain cause seat screen b → AlikeSessions sectors a b
+    → ((echo : List ℕ) → end ≡ play.Left → IsEcho a.run echo → IsLineEcho echo) → SameShown IsLineEcho end before after seat screen
+same_shown sectors IsLineEcho end cause before after seat screen a b calm quiet sees shown both of_line =
+    let (put, also, known, other, together) = both.system.screen.dialog.output in
+    let one = put_in_first end before after a put calm sees known in
+    let two = shown.all (not_failed cause quiet) in record {
+      bytes = a.shown ++ put;
+      echo = one.0;
+      first = one.1;
+      again = λ more. subst (λ (l : List ℕ). Keeps (seat.screen (l ++ more)) (screen.screen more)) (ap (λ (l : List ℕ). b.shown ++ l) (one_known two.0 also b.run.system.terminal.console.output two.1 other) ∙ together) (two.2 more);
+      left = λ e. of_line one.0 e (one.3 e);
+      none = one.2;
+    }
+
+-- nothing was shown
+none_shown : (IsLineEcho : List ℕ → Type 0) (end : PlayEnd) (why : Why) (before after seat screen : Seat) → end ≡ play.Run why → after ≡ before → screen ≡ seat → SameShown IsLineEcho end before after seat screen
+none_shown IsLineEcho end why before after seat screen is one two = record {
+  bytes = [];
+  echo = [];
+  first = λ more. subst (λ (s : Seat). Keeps (before.screen more) (s.screen more)) (sym one) (Keeps-refl (before.screen more));
+  again = λ more. subst (λ (s : Seat). Keeps (seat.screen more) (s.screen more)) (sym two) (Keeps-refl (seat.screen more));
+  left = λ e. absurd (let no : ◌≡◌ {A = PlayEnd} (play.Run why) play.Left = sym is ∙ e in cc);
+  none = λ other. refl;
+}
+
 module _ {S : Type 0} (sectors : S → Image) (faults : S → ℕ) (one_step : OneStep) where
   -- what the law says of a session and of the same session again
-  abbrev Repeated : Mounted S → Mounted S → ℕ → ℕ → ℕ → ℕ → PlayEnd → PlayEnd → List Arrival → List Arrival → Type 0
-  Repeated left there turns steps pc address end cause arrivals came =
-      (cause ≡ end) × (steps ≡ turns) × (address ≡ pc) × AlikeDisks sectors left there × (came ≡ arrivals)
+  abbrev Repeated : List ℕ → List (List ℕ) → Mounted S → Mounted S → Mounted S → ℕ → ℕ → ℕ → ℕ → PlayEnd → PlayEnd → List Arrival → List Arrival → Seat → Seat → Seat → Seat → Type 0
+  Repeated file words disk left there turns steps pc address end cause arrivals came before after seat screen =
+      (cause ≡ end) × (steps ≡ turns) × (address ≡ pc) × AlikeDisks sectors left there × (came ≡ arrivals) × SameShown (IsEchoAfter sectors faults file words disk turns) end before after seat screen
+
+  -- a session that the person left came to its last state
+  left_in : (limit : ℕ) (start : PlayState S) (end : PlayEnd) (new : PlayState S) → PlayEnds sectors faults limit start end new → end ≡ play.Left → PlaysOn sectors faults start new
+  left_in limit start end new ends is = (subst (λ (e : PlayEnd). PlayEnds sectors faults limit start e new) is ends).0
 
   had_memory_then : (refused : StartFault) (end : PlayEnd) → end ≡ play.Run (unstarted refused) → EndsUndisturbed end → refused ≢ fault.NoMemory
   had_memory_then refused end is calm = had_memory refused (unstarted refused) refl (subst EndsUndisturbed is calm)
 
   pub replayed_alike : (file : List ℕ) (words : List (List ℕ)) (disk other left there : Mounted S) (limit turns steps pc address : ℕ) (before after seat screen : Seat) (end cause : PlayEnd) (arrivals came : List Arrival) → AlikeDisks sectors disk other
       → EndsUndisturbed end → EndsUndisturbed cause → IsPlayed sectors faults file words disk limit before end turns pc left arrivals after → IsReplayed sectors faults file words other limit arrivals turns seat cause steps address there came screen
-      → Repeated left there turns steps pc address end cause arrivals came
+      → Repeated file words disk left there turns steps pc address end cause arrivals came before after seat screen
   replayed_alike file words disk other left there limit turns steps pc address before after seat screen end cause arrivals came disks calm quiet (inl h) (inl k) =
       let a = h.2 in
       let b = k.2 in
@@ -359,17 +419,24 @@ module _ {S : Type 0} (sectors : S → Image) (faults : S → ℕ) (one_step : O
       let starts : first_state k.0 k.1 other ≡ first_state h.0 h.1 other = ap (λ c. first_state c k.1 other) cpus ∙ ap (λ m. first_state h.0 m other) memories in
       let ended = replayed_well sectors faults one_step h.0 h.1 disk other disks limit turns cause b quiet (subst (λ (s : PlayState S). ReplayEnds sectors faults limit turns s cause b) starts k.4) in
       let order = bytes_in_order sectors faults file words disk left limit turns pc before after end arrivals (inl h) in
-      let follows = k.12 order in
+      let follows : FollowsRecord arrivals turns steps came × (cause ≡ play.Left → came ≡ arrivals) =
+      (subst (λ l. FollowsRecord l turns steps came) (due_same arrivals turns order) (subst (λ n. FollowsRecord (due_from 0 arrivals) n steps came) (last_same arrivals turns order) k.12), λ e. k.13 e ∙ due_same arrivals turns order) in
       let f : FollowsRecord a.arrivals a.turns b.turns b.arrivals =
       subst (λ l. FollowsRecord a.arrivals a.turns b.turns l) k.9 (subst (λ n. FollowsRecord a.arrivals a.turns n came) k.5 (subst (λ n. FollowsRecord a.arrivals n steps came) h.5 (subst (λ l. FollowsRecord l turns steps came) h.9 follows.0))) in
-      let both = one_end sectors faults one_step h.0 h.1 disk other disks limit end cause a b (played_well sectors faults one_step h.0 h.1 disk other disks limit end a calm h.4) ended.0 (λ e. subst (λ n. n ≤ b.turns) h.5 (ended.1 e))
-      (subst (λ n. n ≤ limit) h.5 h.6) f in
-      let same : steps ≡ turns = k.5 ∙ both.1 ∙ sym h.5 in (
+      let well = played_well sectors faults one_step h.0 h.1 disk other disks limit end a calm h.4 in
+      let left_then = λ (e : cause ≡ play.Left). subst (λ n. n ≤ b.turns) h.5 (ended.1 e) in
+      let most = subst (λ n. n ≤ limit) h.5 h.6 in
+      let both = one_end sectors faults one_step h.0 h.1 disk other disks limit end cause a b well ended.0 left_then most f in
+      let same : steps ≡ turns = k.5 ∙ both.1 ∙ sym h.5 in
+      let all = all_again turns arrivals came end (none_after turns arrivals end calm h.12) (subst (λ n. FollowsRecord arrivals turns n came) same follows.0) (λ e. follows.1 (both.0 ∙ e)) in
+      let alike = one_alike sectors faults one_step h.0 h.1 disk other disks limit end cause a b well ended.0 left_then most f (sym k.9 ∙ all ∙ h.9) both.1 in (
         both.0,
         same,
         k.7 ∙ ap (λ (m : Machine). m.cpu.pc) both.2 ∙ sym h.7,
         subst (AlikeDisks sectors left) (sym k.8) (subst (λ (d : Mounted S). AlikeDisks sectors d b.run.system.disk) (sym h.8) both.3),
-        all_again turns arrivals came end (none_after turns arrivals end calm h.12) (subst (λ n. FollowsRecord arrivals turns n came) same follows.0) (λ e. follows.1 (both.0 ∙ e)),
+        all,
+        same_shown sectors (IsEchoAfter sectors faults file words disk turns) end cause before after seat screen a b calm quiet h.11 k.10 alike
+            (λ echo e is. (h.0, h.1, a, h.3, left_in limit (first_state h.0 h.1 disk) end a h.4 e, h.5, is)),
       )
   replayed_alike file words disk other left there limit turns steps pc address before after seat screen end cause arrivals came disks calm quiet (inl h) (inr k) =
       not_both file words (h.0, h.1) k.0 (had_memory_then k.0 cause k.2 quiet) h.3 k.1
@@ -382,4 +449,5 @@ module _ {S : Type 0} (sectors : S → Image) (faults : S → ℕ) (one_step : O
         k.4 ∙ sym h.4,
         subst (AlikeDisks sectors left) (sym k.5) (subst (λ d. AlikeDisks sectors d other) (sym h.5) disks),
         k.6 ∙ sym h.6,
+        none_shown (IsEchoAfter sectors faults file words disk turns) end (unstarted h.0) before after seat screen h.2 h.7 k.7,
       )

@@ -1,12 +1,13 @@
 -- Which steps wait for input, and what they lack.
-use Rattle.std.proofs.Common.{◌≡◌, ◌≢◌, ◌≤◌, ◌+◌, ◌∷◌, [], ℕ, Bool, true, false, List, Option, None, Some, Err, refl, sym, ap, subst, ◌∙◌}
+use Rattle.std.proofs.Common.{◌≡◌, ◌≢◌, ◌<◌, ◌≤◌, ◌+◌, ◌++◌, ◌∷◌, ◌⊎◌, [], ℕ, zero, suc, Bool, true, false, List, Option, None, Some, Err, inl, inr, length, length-append, refl, sym, ap, subst, arith, ◌∙◌}
 use Rattle.std.proofs.lemmas.Bool.{eqb-true}
-use Rattle.std.specs.Prelude.{◌==◌, if◌then◌else◌}
+use Rattle.std.proofs.lemmas.Bool.Decides.{nat_tests}
+use Rattle.std.specs.Prelude.{◌==◌, if◌then◌else◌, nat_le}
 use Rattle.z80_cpu.specs.declared.registers.Cpu.{Cpu}
 use Rattle.cpm_console.specs.Dialog.{Dialog, put_by}
-use Rattle.cpm_console.specs.Line.{Ending, NoInput, Stored, WarmBoot, typed_line}
+use Rattle.cpm_console.specs.Line.{Ending, NoInput, Stored, WarmBoot, line_ended, line_transcript, transcript, typed_line}
 use Rattle.cpm_console.specs.Screen.{screen}
-use Rattle.cpm_fcb.specs.declared.stop.Stop.TheVariants as stop
+use Rattle.cpm_disk.specs.declared.control.stop.Stop.TheVariants as stop
 use Rattle.cpm_bdos.specs.Console.Texts.{taken_from}
 use Rattle.cpm_bdos.specs.Functions.{bios_entry_of, function_of}
 use Rattle.cpm_bdos.specs.declared.function.BiosEntry.{BiosEntry}
@@ -14,10 +15,10 @@ use Rattle.cpm_bdos.specs.declared.function.BiosEntry.TheVariants as bios
 use Rattle.cpm_bdos.specs.declared.function.ConsoleCall.TheVariants as console
 use Rattle.cpm_bdos.specs.declared.function.Function.{Function}
 use Rattle.cpm_bdos.specs.declared.function.Function.TheVariants as function
-use Rattle.cpm_run.specs.Looks.{Attention, CallLacks, EntryLacks, HoldsFew, LacksAt, LacksInput, MayStep, TakesLine, call_echo, call_patience, echo_at, entry_patience, line_room, next_echo, patience_at, patience_of}
+use Rattle.cpm_run.specs.Looks.{Attention, CallLacks, EntryLacks, HoldsFew, LacksAt, LacksInput, MayHaveEcho, MayStep, TakesLine, call_echo, call_patience, echo_at, entry_patience, line_room, next_echo, patience_at, patience_of}
 use Rattle.cpm_run.specs.Turns.{Call, Entry, Place, Program, RunState, bdos, bios_entry, entry_or_program, place_at_pc}
-use Rattle.cpm_run.specs.declared.station.Patience.{Patience}
-use Rattle.cpm_run.specs.declared.station.Patience.TheVariants as how
+use Rattle.cpm_console.specs.declared.station.Patience.{Patience}
+use Rattle.cpm_console.specs.declared.station.Patience.TheVariants as how
 
 -- ---- what lacks input waits
 
@@ -122,6 +123,27 @@ byte_lacks r is other = by_place (r.machine.cpu.pc == bdos) (λ at. eqb-true r.m
 pub line_echo : {S : Type 0} (r : RunState S Dialog) → TakesLine r.machine.cpu → next_echo r ≡ put_by (typed_line (line_room r) (screen (λ (d : Dialog). d) r.system.terminal)).events
 line_echo r takes = ap (λ p. echo_at p r) (takes_at r.machine.cpu takes) ∙ ap (λ f. call_echo f r) takes.1
 
+needs_byte : (room column : ℕ) (typed : List ℕ) → 0 < length (put_by (line_transcript room (record { bytes = []; start = column; column = column }) typed).events) → (0 < length typed) ⊎ (room ≡ 0)
+needs_byte zero column typed some = inr refl
+needs_byte (suc n) column [] some = absurd (let low : nat_le (suc n) 0 ≡ false = grind (arith, nat_tests) in
+    let none = subst (λ (b : Bool). 0 < length (put_by (if b then line_ended (record { bytes = []; start = column; column = column }) else transcript [] NoInput).events)) low some in omega (arith, none))
+needs_byte (suc n) column (byte ∷ typed) some = inl (omega arith)
+
+-- an echo that is not empty needs a key, or a line without room
+pub echo_due : {S : Type 0} (r : RunState S Dialog) → TakesLine r.machine.cpu → 0 < length (next_echo r) → MayHaveEcho r
+echo_due r takes some = needs_byte (line_room r) r.system.terminal.column r.system.terminal.console.input (subst (λ (l : List ℕ). 0 < length l) (line_echo r takes) some)
+
+pub longer : (echo ahead more : List ℕ) → echo ≡ ahead ++ more → 0 < length more → 0 < length echo
+longer echo ahead more is some = let size = ap length is ∙ length-append ahead more in omega (arith, size, some)
+
+pub none_more : (more : List ℕ) (none : Bool) → none ≡ (length more == 0) → none ≡ true → more ≡ []
+none_more [] none is said = refl
+none_more (byte ∷ more) none is said = absurd (let other = eqb-true (length (byte ∷ more)) 0 (sym is ∙ said) in omega (arith, other))
+
+pub some_more : (more : List ℕ) (none : Bool) → none ≡ (length more == 0) → none ≡ false → 0 < length more
+some_more [] none is said = absurd (let other : true ≡ false = sym is ∙ said in cc)
+some_more (byte ∷ more) none is said = omega arith
+
 other_call : {S : Type 0} (f : Option Function) (r : RunState S Dialog) → f ≢ Some (function.Console console.ReadLine) → call_echo f r ≡ []
 other_call None r other = refl
 other_call (Some function.SystemReset) r other = refl
@@ -156,16 +178,17 @@ polls how.Wait other asks = absurd (other refl)
 
 -- a step that waits for nothing
 pub may_step : {S : Type 0} (r : RunState S Dialog) (turns : ℕ) (a : Attention) → patience_of r.machine.cpu ≢ how.Wait → (patience_of r.machine.cpu ≡ how.Poll → a.here ≡ true)
-    → (patience_of r.machine.cpu ≡ how.Poll → r.system.terminal.console.output ≡ Some []) → turns ≤ a.last + 4000000 → HoldsFew r → MayStep r turns a
-may_step r turns a other polled shown soon held = record {
+    → (patience_of r.machine.cpu ≡ how.Poll → r.system.terminal.console.output ≡ Some []) → turns ≤ a.last + 4000000 → (place_at_pc r.machine.cpu.pc ≢ Program → a.bulk < 1048576) → HoldsFew r → MayStep r turns a
+may_step r turns a other polled shown soon calm held = record {
   fed = λ lacks. absurd (other (waits r lacks));
   polled = polled;
   shown = λ asks. shown (polls (patience_of r.machine.cpu) other asks);
   soon = soon;
+  calm = λ _ call. calm call;
   held = held;
 }
 
 -- a step that waits, and has its input
 pub may_take : {S : Type 0} (r : RunState S Dialog) (turns : ℕ) (a : Attention) → patience_of r.machine.cpu ≡ how.Wait → (LacksInput r → a.ended ≡ true) → r.system.terminal.console.output ≡ Some [] → turns ≤ a.last + 4000000 → HoldsFew r
     → MayStep r turns a
-may_take r turns a is fed all soon held = record { fed = fed; polled = λ e. absurd (let no : how.Wait ≡ how.Poll = sym is ∙ e in cc); shown = λ asks. all; soon = soon; held = held }
+may_take r turns a is fed all soon held = record { fed = fed; polled = λ e. absurd (let no : how.Wait ≡ how.Poll = sym is ∙ e in cc); shown = λ asks. all; soon = soon; calm = λ other. absurd (other is); held = held }

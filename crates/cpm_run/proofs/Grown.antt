@@ -7,8 +7,8 @@ use Rattle.cpm_console.specs.Dialog.{Dialog, Event, put_by, typed_in}
 use Rattle.cpm_console.specs.Line.{Transcript, typed_line}
 use Rattle.cpm_console.specs.Screen.{Does, Screen, screen}
 use Rattle.cpm_disk.specs.Image.{Image}
-use Rattle.cpm_fcb.specs.declared.stop.Stop.{Stop}
-use Rattle.cpm_fcb.specs.declared.stop.Stop.TheVariants as stop
+use Rattle.cpm_disk.specs.declared.control.stop.Stop.{Stop}
+use Rattle.cpm_disk.specs.declared.control.stop.Stop.TheVariants as stop
 use Rattle.cpm_bdos.specs.Answer.{CallerSees, KnownAnswers}
 use Rattle.cpm_bdos.specs.Console.Lines.{ReadsLine}
 use Rattle.cpm_bdos.specs.System.{with_console}

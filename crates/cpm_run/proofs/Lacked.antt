@@ -8,19 +8,19 @@ use Rattle.z80_turns.specs.declared.outcome.Step.TheVariants as step
 use Rattle.cpm_console.specs.Dialog.{Dialog}
 use Rattle.cpm_console.specs.Line.{typed_line}
 use Rattle.cpm_console.specs.Screen.{Screen, screen}
-use Rattle.cpm_directory.specs.Letters.{letters}
+use Rattle.cpm_image.specs.Directory.Letters.{letters}
 use Rattle.cpm_image.specs.declared.kind.DiskKind.{DiskKind}
-use Rattle.cpm_fcb.specs.Files.{file_size}
-use Rattle.cpm_directory.specs.declared.fault.DiskFault.{DiskFault}
-use Rattle.cpm_directory.specs.declared.fault.DiskFault.TheVariants as fault
+use Rattle.cpm_disk.specs.Control.Files.{file_size}
+use Rattle.cpm_image.specs.declared.directory.fault.DiskFault.{DiskFault}
+use Rattle.cpm_image.specs.declared.directory.fault.DiskFault.TheVariants as fault
 use Rattle.cpm_disk.specs.Calls.{Mounted}
 use Rattle.cpm_disk.specs.Image.{Image}
 use Rattle.cpm_disk.specs.Operations.{IsCreated, IsErased, IsRecordRead, IsRecordWritten, IsRenamed}
-use Rattle.cpm_fcb.specs.Bytes.{bytes_at}
-use Rattle.cpm_fcb.specs.Fcbs.{drive_judged, drive_of, fcb_at, file_judged, has_question, name_judged, name_of, names_judged, new_name_of, question, random_of}
-use Rattle.cpm_fcb.specs.Stops.{Done, Ends, Unless, unless_stopped}
-use Rattle.cpm_fcb.specs.declared.stop.Stop.{Stop}
-use Rattle.cpm_fcb.specs.declared.stop.Stop.TheVariants as stop
+use Rattle.cpm_disk.specs.Control.Bytes.{bytes_at}
+use Rattle.cpm_disk.specs.Control.Fcbs.{drive_judged, drive_of, fcb_at, file_judged, has_question, name_judged, name_of, names_judged, new_name_of, question, random_of}
+use Rattle.cpm_disk.specs.Control.Stops.{Done, Ends, Unless, unless_stopped}
+use Rattle.cpm_disk.specs.declared.control.stop.Stop.{Stop}
+use Rattle.cpm_disk.specs.declared.control.stop.Stop.TheVariants as stop
 use Rattle.cpm_bdos.specs.Answer.{Answers, CallerSees, FileAnswers, InputAnswers, KnownAnswers, KnownEntry, RecordAnswers, SearchAnswers, SettingAnswers, answered, nothing_answered, output_answered}
 use Rattle.cpm_bdos.specs.Console.Lines.{ReadsLine}
 use Rattle.cpm_bdos.specs.Console.Raw.{Asked, PutsDirect, PutsRaw, TakesAny, TakesRaw}

@@ -6,8 +6,8 @@ use Rattle.cpm_console.specs.Dialog.{Dialog}
 use Rattle.cpm_console.specs.Line.{NoInput, Stored, Transcript, WarmBoot, typed_line}
 use Rattle.cpm_console.specs.Screen.{Screen, screen}
 use Rattle.cpm_disk.specs.Image.{Image}
-use Rattle.cpm_fcb.specs.declared.stop.Stop.{Stop}
-use Rattle.cpm_fcb.specs.declared.stop.Stop.TheVariants as stop
+use Rattle.cpm_disk.specs.declared.control.stop.Stop.{Stop}
+use Rattle.cpm_disk.specs.declared.control.stop.Stop.TheVariants as stop
 use Rattle.cpm_bdos.specs.Answer.{CallerSees, InputAnswers, KnownAnswers, KnownEntry, answered}
 use Rattle.cpm_bdos.specs.Console.Lines.{ReadsLine}
 use Rattle.cpm_bdos.specs.Console.Raw.{TakesRaw}

@@ -1,6 +1,6 @@
 -- The parts of memory, written one after the other.
 use Rattle.std.proofs.Common.{◌≡◌, ℕ, List, ap, ◌∙◌}
-use Rattle.cpm_fcb.specs.Bytes.{with_bytes}
+use Rattle.cpm_disk.specs.Control.Bytes.{with_bytes}
 
 -- one more part is written
 pub laid : (at : ℕ) (new old memory bytes part : List ℕ) → new ≡ with_bytes at bytes old → bytes ≡ part → old ≡ memory → new ≡ with_bytes at part memory

@@ -10,6 +10,7 @@ mod Grown
 mod Waiting
 mod Looking
 mod Sitting
+mod Due
 mod Replayed
 pub mod OneRun
 mod TypedBefore

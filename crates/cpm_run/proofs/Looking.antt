@@ -1,5 +1,5 @@
 -- How a session looks at the keyboard.
-use Rattle.std.proofs.Common.{◌≡◌, ◌≢◌, ◌<◌, ◌≤◌, ◌+◌, ◌++◌, ◌∷◌, ◌⊎◌, [], inl, inr, ℕ, true, false, IfSome, List, Option, None, Some, Result, Ok, Err, length, refl, sym, ap, subst, ◌∙◌, append_assoc, append-nil, arith}
+use Rattle.std.proofs.Common.{◌≡◌, ◌≢◌, ◌<◌, ◌≤◌, ◌+◌, ◌-◌, ◌++◌, ◌∷◌, ◌⊎◌, [], inl, inr, ℕ, true, false, IfSome, List, Option, None, Some, Result, Ok, Err, length, refl, sym, ap, subst, ◌∙◌, append_assoc, append-nil, length-append, arith}
 use Rattle.std.specs.Prelude.{OnOk, option_map}
 use Rattle.z80_cpu.specs.declared.registers.Cpu.{Cpu}
 use Rattle.z80_cpu.specs.State.{Machine, machine}
@@ -12,23 +12,23 @@ use Rattle.cpm_console.specs.Line.{NoInput, typed_line}
 use Rattle.cpm_console.specs.Screen.{screen}
 use Rattle.cpm_disk.specs.Image.{Image}
 use Rattle.cpm_bdos.specs.System.{System, with_console}
-use Rattle.cpm_fcb.specs.declared.stop.Stop.{Stop as BdosStop}
-use Rattle.cpm_fcb.specs.declared.stop.Stop.TheVariants as stop
+use Rattle.cpm_disk.specs.declared.control.stop.Stop.{Stop as BdosStop}
+use Rattle.cpm_disk.specs.declared.control.stop.Stop.TheVariants as stop
 use Rattle.cpm_run.specs.declared.ending.Why.{Why}
 use Rattle.cpm_run.specs.declared.ending.Why.TheVariants as why
 use Rattle.cpm_run.specs.declared.arriving.Arrival.{Arrival}
 use Rattle.cpm_run.specs.declared.arriving.PlayEnd.{PlayEnd}
 use Rattle.cpm_run.specs.declared.playing.state.Playing.{Playing}
-use Rattle.cpm_run.specs.declared.station.Patience.{Patience}
-use Rattle.cpm_run.specs.declared.station.Patience.TheVariants as how
+use Rattle.cpm_console.specs.declared.station.Patience.{Patience}
+use Rattle.cpm_console.specs.declared.station.Patience.TheVariants as how
 use Rattle.cpm_run.specs.declared.arriving.PlayEnd.TheVariants as play
-use Rattle.cpm_run.specs.declared.station.Came.{Came}
-use Rattle.cpm_run.specs.declared.station.Came.TheVariants as came
-use Rattle.cpm_run.specs.declared.station.StationFault.{StationFault}
-use Rattle.cpm_run.specs.Looks.{Attention, HoldsFew, IsLookDue, LacksInput, MayLook, MayStep, TakesLine, after_look, after_show, after_step, line_room, next_echo, patience_at, patience_of, says_end, waits_after}
+use Rattle.cpm_console.specs.declared.station.Came.{Came}
+use Rattle.cpm_console.specs.declared.station.Came.TheVariants as came
+use Rattle.cpm_console.specs.declared.station.StationFault.{StationFault}
+use Rattle.cpm_run.specs.Looks.{Attention, HoldsFew, IsLookDue, LacksInput, MayHaveEcho, MayLook, MayStep, TakesLine, after_look, after_show, after_step, line_room, next_echo, patience_at, patience_of, says_end, waits_after}
 use Rattle.cpm_run.specs.Play.{Attends, CameWith, ComesTo, EndsAttended, EndsByLook, HasHappened, HasRun, NeedsNoStep, PlayState, RunsTo, arrived}
 use Rattle.cpm_run.specs.Play.Attends.{a_look, a_step, a_show, an_echo}
-use Rattle.cpm_run.specs.Seat.{Seat, SeatEvent, looks_in, with_events}
+use Rattle.cpm_console.specs.Seat.{Seat, SeatEvent, looks_in, with_events}
 use Rattle.cpm_run.specs.Turns.{IsTurn, RunState, is_finished, step_end}
 use Rattle.cpm_run.specs.Private.Playing.{AfterLook, Attended, HasEnded, HasStopped, IsAttended, IsDone, IsAhead, IsLooking, IsPut, IsQuiet, IsRefused, IsTold, LooksOn, ShowsRest, StepsTo, Watched, WatchedOn, state_of, waited}
 use Rattle.cpm_run.proofs.Asked.{byte_lacks, line_lacks, may_step, may_take, no_echo}
@@ -83,7 +83,7 @@ told_of {A} (Err e) before mid after p q quiet shows none =
 
 -- a step after which nobody had looked
 same_attention : (a : Attention) → a.here ≡ false → after_step a ≡ a
-same_attention a none = ap (λ h. record { events = a.events; ahead = a.ahead; last = a.last; here = h; ended = a.ended }) (sym none)
+same_attention a none = ap (λ h. record { events = a.events; ahead = a.ahead; last = a.last; bulk = a.bulk; here = h; ended = a.ended }) (sym none)
 
 pub not_wait : (patience : Patience) → patience ≡ how.Glance → patience ≢ how.Wait
 not_wait patience is waits = absurd (let e : how.Glance ≡ how.Wait = sym is ∙ waits in cc)
@@ -99,12 +99,21 @@ glance_at m e = ap (λ p. patience_at p m.cpu) (unwatched m.cpu.pc e).0
 pub few_held : {S : Type 0} (r : RunState S Dialog) → r.system.terminal.console.output ≡ Some [] → HoldsFew r
 few_held r all = subst (λ (l : Option (List ℕ)). IfSome l (λ bytes. length bytes < 4096)) (sym all) (let few : 0 < 4096 = omega arith in few)
 
+-- how much is still to be shown does not depend on how it is found
+pub as_long : (ahead rest other : List ℕ) → ahead ++ rest ≡ ahead ++ other → length rest ≡ length other
+as_long ahead rest other is =
+    let whole = sym (length-append ahead rest) ∙ ap length is ∙ length-append ahead other in
+    omega (arith, whole)
+
+pub one_put : (xs ys : List ℕ) → ◌≡◌ {A = Option (List ℕ)} (Some xs) (Some ys) → xs ≡ ys
+one_put xs ys is = cc
+
 module _ {S : Type 0} (sectors : S → Image) (faults : S → ℕ) where
   abbrev moved_to : PlayState S → ℕ → RunState S Dialog → PlayState S
   moved_to s n run = record s { run = run; turns = n }
 
   free_step : (m : Machine) (s : System S Dialog) (turns : ℕ) (a : Attention) → is_watched system m.cpu.pc ≡ false → turns ≤ a.last + 4000000 → HoldsFew (at m s) → MayStep (at m s) turns a
-  free_step m s turns a e soon held = may_step (at m s) turns a (not_wait (patience_of m.cpu) (glance_at m e)) (not_poll (patience_of m.cpu) (glance_at m e)) (not_poll (patience_of m.cpu) (glance_at m e)) soon held
+  free_step m s turns a e soon held = may_step (at m s) turns a (not_wait (patience_of m.cpu) (glance_at m e)) (not_poll (patience_of m.cpu) (glance_at m e)) (not_poll (patience_of m.cpu) (glance_at m e)) soon (λ call. absurd (call (unwatched m.cpu.pc e).0)) held
 
   -- the steps that the machine makes between two addresses of the system
   pub ran_on : {k : ℕ} {old new : Machine} (start s : PlayState S) (system_then : System S Dialog) (a : Attention) → a.here ≡ false → s.turns + k ≤ a.last + 4000000 → IfSome system_then.terminal.console.output (λ bytes. length bytes < 4096)
@@ -162,14 +171,15 @@ module _ {S : Type 0} (sectors : S → Image) (faults : S → ℕ) where
 
   -- steps were made, and none ended the run
   pub kept_looking : (end : Option Why) (start : PlayState S) (before after : Seat) (p q : Playing S) (a : Attention) (watched : Watched sectors faults start before p after a) → ((why : Why) → end ≢ Some why)
-      → StepsTo sectors faults end start (state_of q watched.shown) a → q.ahead.items ≡ p.ahead.items → q.looked ≡ p.looked → p.turns ≤ q.turns → q.ended ≡ p.ended → Watched sectors faults start before q after (after_step a)
-  kept_looking end start before after p q a watched other made ahead looked later ended = record {
+      → StepsTo sectors faults end start (state_of q watched.shown) a → q.ahead.items ≡ p.ahead.items → q.looked ≡ p.looked → p.turns ≤ q.turns → q.allowance ≡ p.allowance → q.ended ≡ p.ended → Watched sectors faults start before q after (after_step a)
+  kept_looking end start before after p q a watched other made ahead looked later allowance ended = record {
     shown = watched.shown;
     attends = stepped_on end start (state_of q watched.shown) a other made;
     events = watched.events;
     ahead = watched.ahead ∙ sym ahead;
     last = watched.last ∙ sym looked;
     past = let was = watched.past in omega (arith, was, looked, later);
+    allowance = allowance ∙ watched.allowance;
     ended = watched.ended ∙ sym ended;
   }
 
@@ -203,9 +213,9 @@ module _ {S : Type 0} (sectors : S → Image) (faults : S → ℕ) where
   pub looked : (patience : Patience) (answer : Result Came StationFault) (bytes : List ℕ) (start : PlayState S) (before mid after : Seat) (p q : Playing S) (a : Attention) → Watched sectors faults start before p mid a
       → MayLook patience (state_of p []).run p.turns a → after.events ≡ with_events (SeatEvent.asked p.turns patience answer ∷ []) mid.events → CameWith answer bytes
       → q.cpu ≡ p.cpu → q.memory ≡ p.memory → q.turns ≡ p.turns → q.bdos ≡ with_console (typed_in bytes p.bdos.terminal.console) p.bdos → q.arrivals.items ≡ p.arrivals.items ++ arrived p.turns bytes
-      → q.ahead.items ≡ p.ahead.items → q.looked ≡ q.turns → says_end answer ≡ q.ended
+      → q.ahead.items ≡ p.ahead.items → q.looked ≡ q.turns → q.allowance ≡ 1048576 → says_end answer ≡ q.ended
       → (b : Attention) × Watched sectors faults start before q after b × (b.here ≡ true) × (waits_after q.turns a.events + waited patience ≤ waits_after q.turns b.events)
-  looked patience answer bytes start before mid after p q a watched may noted with cpu memory turns typed came ahead now ended = (
+  looked patience answer bytes start before mid after p q a watched may noted with cpu memory turns typed came ahead now allowance ended = (
     after_look p.turns patience answer a,
     record {
       shown = watched.shown;
@@ -214,6 +224,7 @@ module _ {S : Type 0} (sectors : S → Image) (faults : S → ℕ) where
       ahead = watched.ahead ∙ sym ahead;
       last = sym turns ∙ sym now;
       past = omega (arith, now);
+      allowance = omega (arith, allowance);
       ended = ended;
     },
     refl,
@@ -223,11 +234,11 @@ module _ {S : Type 0} (sectors : S → Image) (faults : S → ℕ) where
   -- a look that says that no key will come
   pub looked_in_vain : (patience : Patience) (start : PlayState S) (before mid after : Seat) (p q : Playing S) (a : Attention) → Watched sectors faults start before p mid a
       → MayLook patience (state_of p []).run p.turns a → after.events ≡ with_events (SeatEvent.asked p.turns patience (Ok came.End) ∷ []) mid.events
-      → q.cpu ≡ p.cpu → q.memory ≡ p.memory → q.turns ≡ p.turns → q.bdos ≡ p.bdos → q.arrivals.items ≡ p.arrivals.items → q.ahead.items ≡ p.ahead.items → q.looked ≡ q.turns → true ≡ q.ended
+      → q.cpu ≡ p.cpu → q.memory ≡ p.memory → q.turns ≡ p.turns → q.bdos ≡ p.bdos → q.arrivals.items ≡ p.arrivals.items → q.ahead.items ≡ p.ahead.items → q.looked ≡ q.turns → q.allowance ≡ 1048576 → true ≡ q.ended
       → (b : Attention) × Watched sectors faults start before q after b × (b.here ≡ true) × (waits_after q.turns a.events + waited patience ≤ waits_after q.turns b.events)
-  looked_in_vain patience start before mid after p q a watched may noted cpu memory turns system_same arrived_none ahead now ended =
+  looked_in_vain patience start before mid after p q a watched may noted cpu memory turns system_same arrived_none ahead now allowance ended =
       let none : with_console (typed_in [] p.bdos.terminal.console) p.bdos ≡ p.bdos = ap (λ l. with_console (record p.bdos.terminal.console { input = l }) p.bdos) (append-nil p.bdos.terminal.console.input) in
-      looked patience (Ok came.End) [] start before mid after p q a watched may noted refl cpu memory turns (system_same ∙ sym none) (arrived_none ∙ sym (append-nil p.arrivals.items)) ahead now ended
+      looked patience (Ok came.End) [] start before mid after p q a watched may noted refl cpu memory turns (system_same ∙ sym none) (arrived_none ∙ sym (append-nil p.arrivals.items)) ahead now allowance ended
 
   -- a look that ended the session
   pub looked_last : (patience : Patience) (answer : Result Came StationFault) (start : PlayState S) (before mid after : Seat) (p q : Playing S) (a : Attention) → Watched sectors faults start before p mid a
@@ -244,9 +255,9 @@ module _ {S : Type 0} (sectors : S → Image) (faults : S → ℕ) where
 
   -- the screen took what was put
   pub showed_rest : (start : PlayState S) (before mid after : Seat) (p q : Playing S) (a : Attention) (rest : List ℕ) → Watched sectors faults start before p mid a → p.bdos.terminal.console.output ≡ Some (p.ahead.items ++ rest)
-      → q.bdos ≡ with_console (output_cleared p.bdos.terminal.console) p.bdos → q.cpu ≡ p.cpu → q.memory ≡ p.memory → q.turns ≡ p.turns → q.arrivals.items ≡ p.arrivals.items → q.looked ≡ p.looked → q.ended ≡ p.ended → q.ahead.items ≡ []
+      → q.bdos ≡ with_console (output_cleared p.bdos.terminal.console) p.bdos → q.cpu ≡ p.cpu → q.memory ≡ p.memory → q.turns ≡ p.turns → q.arrivals.items ≡ p.arrivals.items → q.looked ≡ p.looked → q.allowance ≡ p.allowance - length rest → q.ended ≡ p.ended → q.ahead.items ≡ []
       → after.events ≡ with_events (SeatEvent.showed rest ∷ []) mid.events → (b : Attention) × Watched sectors faults start before q after b × (b.here ≡ a.here) × ((n : ℕ) → waits_after n a.events ≤ waits_after n b.events)
-  showed_rest start before mid after p q a rest watched put cleared cpu memory turns arrivals now ended ahead noted = (
+  showed_rest start before mid after p q a rest watched put cleared cpu memory turns arrivals now spent ended ahead noted = (
     after_show rest [] a,
     record {
       shown = watched.shown ++ (a.ahead ++ rest);
@@ -255,6 +266,7 @@ module _ {S : Type 0} (sectors : S → Image) (faults : S → ℕ) where
       ahead = sym ahead;
       last = watched.last ∙ sym now;
       past = let was = watched.past in omega (arith, was, now, turns);
+      allowance = let was = watched.allowance in omega (arith, was, spent);
       ended = watched.ended ∙ sym ended;
     },
     refl,
@@ -263,9 +275,9 @@ module _ {S : Type 0} (sectors : S → Image) (faults : S → ℕ) where
 
   -- more of the echo is shown
   pub showed_echo : (start : PlayState S) (before mid after : Seat) (p q : Playing S) (a : Attention) (more : List ℕ) → Watched sectors faults start before p mid a → p.bdos.terminal.console.output ≡ Some [] → next_echo (state_of p []).run ≡ p.ahead.items ++ more
-      → q.bdos ≡ p.bdos → q.cpu ≡ p.cpu → q.memory ≡ p.memory → q.turns ≡ p.turns → q.arrivals.items ≡ p.arrivals.items → q.looked ≡ p.looked → q.ended ≡ p.ended → q.ahead.items ≡ p.ahead.items ++ more
+      → q.bdos ≡ p.bdos → q.cpu ≡ p.cpu → q.memory ≡ p.memory → q.turns ≡ p.turns → q.arrivals.items ≡ p.arrivals.items → q.looked ≡ p.looked → q.allowance ≡ p.allowance - length more → q.ended ≡ p.ended → q.ahead.items ≡ p.ahead.items ++ more
       → after.events ≡ with_events (SeatEvent.showed more ∷ []) mid.events → (b : Attention) × Watched sectors faults start before q after b × (b.here ≡ a.here) × ((n : ℕ) → waits_after n a.events ≤ waits_after n b.events)
-  showed_echo start before mid after p q a more watched all echo same cpu memory turns arrivals now ended ahead noted = (
+  showed_echo start before mid after p q a more watched all echo same cpu memory turns arrivals now spent ended ahead noted = (
     after_show more (a.ahead ++ more) a,
     record {
       shown = watched.shown;
@@ -274,14 +286,12 @@ module _ {S : Type 0} (sectors : S → Image) (faults : S → ℕ) where
       ahead = ap (λ (l : List ℕ). l ++ more) watched.ahead ∙ sym ahead;
       last = watched.last ∙ sym now;
       past = let was = watched.past in omega (arith, was, now, turns);
+      allowance = let was = watched.allowance in omega (arith, was, spent);
       ended = watched.ended ∙ sym ended;
     },
     refl,
     λ n. as_often n more a.events,
   )
-
-  one_put : (xs ys : List ℕ) → ◌≡◌ {A = Option (List ℕ)} (Some xs) (Some ys) → xs ≡ ys
-  one_put xs ys is = cc
 
   -- what was put begins with what is shown ahead of it
   pub not_behind : (A : Type 0) {E : Type 0} (end : Option Why) (e : E) (mid after : Seat) (p : Playing S) → IsPut end p → end ≢ Some (why.Stopped stop.ConsoleFault) → ShowsRest {A = A} (Err e) p mid after
@@ -304,11 +314,16 @@ module _ {S : Type 0} (sectors : S → Image) (faults : S → ℕ) where
 
   -- a look is still due once all is shown
   pub still_due : (patience : Patience) (start : PlayState S) (before mid after : Seat) (p q : Playing S) (a b : Attention) → patience ≢ how.Wait → Watched sectors faults start before p mid a → Watched sectors faults start before q after b
-      → q.cpu ≡ p.cpu → q.turns ≡ p.turns → q.looked ≡ p.looked → b.here ≡ a.here → IsLookDue patience (state_of p []).run p.turns a → IsLookDue patience (state_of q []).run q.turns b
-  still_due how.Wait start before mid after p q a b other was now cpu turns same here due = absurd (other refl)
-  still_due how.Poll start before mid after p q a b other was now cpu turns same here due = (ap (λ (r : Cpu). patience_of r) cpu ∙ due.0, here ∙ due.1)
-  still_due how.Glance start before mid after p q a b other was now cpu turns same here due =
-      (λ polls. due.0 (sym (ap (λ (r : Cpu). patience_of r) cpu) ∙ polls), let long = due.1 in let first = was.last in let then = now.last in omega (arith, long, first, then, same, turns))
+      → q.cpu ≡ p.cpu → q.turns ≡ p.turns → q.looked ≡ p.looked → q.allowance ≤ p.allowance → b.here ≡ a.here → IsLookDue patience (state_of p []).run p.turns a → IsLookDue patience (state_of q []).run q.turns b
+  still_due how.Wait start before mid after p q a b other was now cpu turns same less here due = absurd (other refl)
+  still_due how.Poll start before mid after p q a b other was now cpu turns same less here due = (ap (λ (r : Cpu). patience_of r) cpu ∙ due.0, here ∙ due.1)
+  still_due how.Glance start before mid after p q a b other was now cpu turns same less here due = (
+    λ polls. due.0 (sym (ap (λ (r : Cpu). patience_of r) cpu) ∙ polls),
+    elim due.1 [
+      | inl long ↦ inl (let first = was.last in let then = now.last in omega (arith, long, first, then, same, turns))
+      | inr loud ↦ inr (let first = was.allowance in let then = now.allowance in omega (arith, loud, first, then, less))
+    ],
+  )
 
   -- a step that waits for nothing
   pub looking_on : (start : PlayState S) (before after : Seat) (p : Playing S) → IsLooking sectors faults start before p after → patience_of p.cpu ≢ how.Wait → IsAttended sectors faults start before p after
@@ -316,7 +331,7 @@ module _ {S : Type 0} (sectors : S → Image) (faults : S → ℕ) where
     so_far = looking.so_far;
     watched = looking.watched;
     lately = looking.lately;
-    may = may_step (state_of p []).run p.turns looking.so_far quick looking.polled looking.shown (let lately = looking.lately in let last = looking.watched.last in omega (arith, lately, last)) looking.held;
+    may = may_step (state_of p []).run p.turns looking.so_far quick looking.polled looking.shown (let lately = looking.lately in let last = looking.watched.last in omega (arith, lately, last)) (λ _. looking.calm) looking.held;
     ahead = inl looking.none;
   }
 
@@ -363,14 +378,14 @@ module _ {S : Type 0} (sectors : S → Image) (faults : S → ℕ) where
   look_after patience (Err end) start before after p a b less ended = ended
 
   -- the next step may follow a look, unless it lacks input
-  pub looks_after : {A : Type 0} (patience : Patience) (result : Result A PlayEnd) (start : PlayState S) (before after : Seat) (p : Playing S) (a : Attention) → OnOk result (p.looked ≡ p.turns) → OnOk result (p.bdos.terminal.console.output ≡ Some []) → OnOk result (p.ahead.items ≡ [])
+  pub looks_after : {A : Type 0} (patience : Patience) (result : Result A PlayEnd) (start : PlayState S) (before after : Seat) (p : Playing S) (a : Attention) → OnOk result (p.looked ≡ p.turns) → OnOk result (p.allowance ≡ 1048576) → OnOk result (p.bdos.terminal.console.output ≡ Some []) → OnOk result (p.ahead.items ≡ [])
       → AfterLook sectors faults patience result start before p after a → LooksOn sectors faults result start before p after
-  looks_after patience (Ok done) start before after p a now all none (b, watched, here, more) = record { so_far = b; watched = watched; polled = λ _. here; shown = λ _. all; lately = omega (arith, now); held = few_held (state_of p []).run all; none = none }
-  looks_after patience (Err end) start before after p a now all none ended = ended
+  looks_after patience (Ok done) start before after p a now whole all none (b, watched, here, more) = record { so_far = b; watched = watched; polled = λ _. here; shown = λ _. all; lately = omega (arith, now); calm = let allowed = watched.allowance in omega (arith, allowed, whole); held = few_held (state_of p []).run all; none = none }
+  looks_after patience (Err end) start before after p a now whole all none ended = ended
 
   -- memory ran out for the echo
-  pub echo_short : (start : PlayState S) (before after : Seat) (p : Playing S) (a : Attention) → TakesLine p.cpu → Watched sectors faults start before p after a → HasEnded sectors faults play.NoMemory start before p after
-  echo_short start before after p a line watched = (a.events, watched.events, inl (a, (watched.shown, watched.attends), line, refl))
+  pub echo_short : (start : PlayState S) (before after : Seat) (p : Playing S) (a : Attention) → TakesLine p.cpu → MayHaveEcho (state_of p []).run → Watched sectors faults start before p after a → HasEnded sectors faults play.NoMemory start before p after
+  echo_short start before after p a line due watched = (a.events, watched.events, inl (a, (watched.shown, watched.attends), line, due, refl))
 
   -- the screen did not take the echo
   pub echo_refused : (start : PlayState S) (before mid after : Seat) (p : Playing S) (a : Attention) (more : List ℕ) → ComesTo sectors faults start (state_of p []) a → next_echo (state_of p []).run ≡ a.ahead ++ more → mid.events ≡ with_events a.events before.events

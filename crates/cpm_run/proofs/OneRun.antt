@@ -9,8 +9,8 @@ use Rattle.z80_machine.specs.Turn.{IsStep}
 use Rattle.cpm_console.specs.Dialog.{Dialog}
 use Rattle.cpm_disk.specs.Calls.{Mounted}
 use Rattle.cpm_disk.specs.Image.{Image}
-use Rattle.cpm_fcb.specs.declared.stop.Stop.{Stop}
-use Rattle.cpm_fcb.specs.declared.stop.Stop.TheVariants as stop
+use Rattle.cpm_disk.specs.declared.control.stop.Stop.{Stop}
+use Rattle.cpm_disk.specs.declared.control.stop.Stop.TheVariants as stop
 use Rattle.cpm_bdos.specs.Alike.{AlikeDialogs, AlikeDisks, AlikeSystems, HasNotFailed, SameIfKnown, seen_nothing}
 use Rattle.cpm_bdos.specs.Functions.{bios_entry_of, function_of}
 use Rattle.cpm_bdos.specs.System.{new_system}

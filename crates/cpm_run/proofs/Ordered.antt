@@ -8,7 +8,7 @@ use Rattle.cpm_run.specs.declared.arriving.PlayEnd.{PlayEnd}
 use Rattle.cpm_run.specs.declared.arriving.PlayEnd.TheVariants as play
 use Rattle.cpm_run.specs.declared.ending.Why.{Why}
 use Rattle.cpm_run.specs.Play.{EndsBy, IsInOrder, IsPlayed, PlayedRunEnds, PlayEnds, PlayState, PlaysOn, first_state}
-use Rattle.cpm_run.specs.Seat.{Seat}
+use Rattle.cpm_console.specs.Seat.{Seat}
 use Rattle.cpm_run.proofs.OneSession.{Walk, same_some, walk_of}
 use Rattle.cpm_run.proofs.OneSession.Walk.{begin, step, byte, show}
 

@@ -15,13 +15,13 @@ use Rattle.z80_machine.specs.declared.runs.Stop.{Stop}
 use Rattle.cpm_console.specs.Dialog.{Dialog, typed_in}
 use Rattle.cpm_disk.specs.Image.{Image}
 use Rattle.cpm_bdos.specs.System.{System, with_console}
-use Rattle.cpm_fcb.specs.declared.stop.Stop.TheVariants as stop
+use Rattle.cpm_disk.specs.declared.control.stop.Stop.TheVariants as stop
 use Rattle.cpm_run.specs.declared.ending.Why.{Why}
 use Rattle.cpm_run.specs.declared.ending.Why.TheVariants as why
 use Rattle.cpm_run.specs.Turns.{Goes, IsTurn, RunState, is_finished, step_end}
 use Rattle.cpm_run.specs.Turns.Goes.{none, more}
 use Rattle.cpm_run.specs.Play.{Arrives, CameBefore, EndsBy, IsEcho, PlayedRunEnds, PlayEnds, PlayState, PlaysOn, Sees, arrived, arrival_bytes}
-use Rattle.cpm_run.specs.Seat.{Leaves, Seat, Takes}
+use Rattle.cpm_console.specs.Seat.{Leaves, Seat, Takes}
 use Rattle.cpm_run.specs.Play.PlaysOn.{goes, came}
 use Rattle.cpm_run.specs.declared.arriving.Arrival.{Arrival}
 use Rattle.cpm_run.specs.declared.arriving.PlayEnd.{PlayEnd}

@@ -4,11 +4,11 @@ use Rattle.std.proofs.lemmas.Bool.{eq-eqb}
 use Rattle.std.specs.Prelude.{◌==◌, if◌then◌else◌}
 use Rattle.cpm_run.specs.Looks.{waits_after}
 use Rattle.cpm_run.specs.Private.Playing.{waited}
-use Rattle.cpm_run.specs.Seat.{SeatEvent}
-use Rattle.cpm_run.specs.declared.station.Came.{Came}
-use Rattle.cpm_run.specs.declared.station.Patience.{Patience}
-use Rattle.cpm_run.specs.declared.station.Patience.TheVariants as how
-use Rattle.cpm_run.specs.declared.station.StationFault.{StationFault}
+use Rattle.cpm_console.specs.Seat.{SeatEvent}
+use Rattle.cpm_console.specs.declared.station.Came.{Came}
+use Rattle.cpm_console.specs.declared.station.Patience.{Patience}
+use Rattle.cpm_console.specs.declared.station.Patience.TheVariants as how
+use Rattle.cpm_console.specs.declared.station.StationFault.{StationFault}
 
 one_wait : (n : ℕ) (patience : Patience) (answer : Result Came StationFault) → waits_after n (SeatEvent.asked n patience answer ∷ []) ≡ waited patience
 one_wait n how.Wait answer = ap (λ (here : Bool). (if here then 1 else 0) + 0) (eq-eqb n n refl)

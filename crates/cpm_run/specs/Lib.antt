@@ -1,8 +1,6 @@
-pub mod Words
 pub mod Start
 pub mod Turns
 pub mod Run
-pub mod Seat
 pub mod Undisturbed
 pub mod Records
 pub mod Walks

@@ -1,5 +1,5 @@
 -- A session at a keyboard: a run to which bytes come between its steps.
-use Rattle.std.specs.Prelude.{◌≡◌, ◌≢◌, ◌<◌, ◌≤◌, ◌+◌, ◌++◌, ◌∷◌, ◌⊎◌, ℕ, true, false, IfSome, List, [], None, Some, Result, Ok, Err, length, map, min, option_map, slice_get, take}
+use Rattle.std.specs.Prelude.{◌≡◌, ◌≢◌, ◌<◌, ◌≤◌, ◌+◌, ◌++◌, ◌∷◌, ◌⊎◌, ℕ, true, false, IfSome, List, [], None, Some, Result, Ok, Err, length, map, max, min, option_map, slice_get, take}
 use Rattle.std.specs.Io.{StartsWith}
 use Rattle.std.specs.Io.KnownBytes.{Consumes, IsAtEnd, Keeps}
 use Rattle.z80_cpu.specs.State.{machine}
@@ -7,7 +7,7 @@ use Rattle.z80_cpu.specs.declared.registers.Cpu.{Cpu}
 use Rattle.cpm_console.specs.Dialog.{Dialog, output_cleared, dialog_of, typed_in}
 use Rattle.cpm_disk.specs.Calls.{Mounted}
 use Rattle.cpm_disk.specs.Image.{Image}
-use Rattle.cpm_fcb.specs.declared.stop.Stop.TheVariants as stop
+use Rattle.cpm_disk.specs.declared.control.stop.Stop.TheVariants as stop
 use Rattle.cpm_bdos.specs.System.{new_system, with_console}
 use Rattle.cpm_run.specs.declared.ending.Why.{Why}
 use Rattle.cpm_run.specs.declared.ending.Why.TheVariants as why
@@ -15,13 +15,13 @@ use Rattle.cpm_run.specs.declared.fault.StartFault.{StartFault}
 use Rattle.cpm_run.specs.declared.arriving.Arrival.{Arrival}
 use Rattle.cpm_run.specs.declared.arriving.PlayEnd.{PlayEnd}
 use Rattle.cpm_run.specs.declared.arriving.PlayEnd.TheVariants as play
-use Rattle.cpm_run.specs.declared.station.Came.{Came}
-use Rattle.cpm_run.specs.declared.station.Came.TheVariants as said
-use Rattle.cpm_run.specs.declared.station.Patience.{Patience}
-use Rattle.cpm_run.specs.declared.station.StationFault.{StationFault}
-use Rattle.cpm_run.specs.Looks.{Attention, MayLook, MayStep, TakesLine, after_look, after_show, after_step, next_echo, unlooked, waits_after}
+use Rattle.cpm_console.specs.declared.station.Came.{Came}
+use Rattle.cpm_console.specs.declared.station.Came.TheVariants as said
+use Rattle.cpm_console.specs.declared.station.Patience.{Patience}
+use Rattle.cpm_console.specs.declared.station.StationFault.{StationFault}
+use Rattle.cpm_run.specs.Looks.{Attention, MayHaveEcho, MayLook, MayStep, TakesLine, after_look, after_show, after_step, next_echo, unlooked, waits_after}
 use Rattle.cpm_run.specs.Run.{unstarted}
-use Rattle.cpm_run.specs.Seat.{Seat, SeatEvent, looks_in, with_events}
+use Rattle.cpm_console.specs.Seat.{Seat, SeatEvent, looks_in, with_events}
 use Rattle.cpm_run.specs.Start.{IsStart}
 use Rattle.cpm_run.specs.Turns.{Goes, IsTurn, RunState, is_finished}
 
@@ -69,21 +69,22 @@ PlayedRunEnds sectors faults limit start end new =
 abbrev pub EndsBetween : {S : Type 0} → (S → Image) → (S → ℕ) → ℕ → PlayState S → PlayState S → Type 0
 EndsBetween sectors faults limit start new = PlaysOn sectors faults start new × (is_finished new.run.machine.cpu.pc ≡ false) × (new.turns < limit)
 
--- How a session ends: with the run; or before, since the person left, or memory ran out for what came; or since the keyboard or the screen
--- failed, which may also be after the run.
+-- How a session ends. Either the run ends; or before that the person leaves, or memory runs out; or the session fails, before the end of the run or
+-- when the last bytes are to be shown.
 abbrev pub PlayEnds : {S : Type 0} → (S → Image) → (S → ℕ) → ℕ → PlayState S → PlayEnd → PlayState S → Type 0
 PlayEnds sectors faults limit start (play.Run end) new = PlayedRunEnds sectors faults limit start end new
 PlayEnds sectors faults limit start play.Failed new = PlaysOn sectors faults start new ⊎ ((end : Why) × PlayedRunEnds sectors faults limit start end new)
 PlayEnds sectors faults limit start _ new = EndsBetween sectors faults limit start new
 
--- These bytes come with what the keyboard answers, which has room for 256. With any other answer the session ends.
+-- These bytes come with this answer of the keyboard, which is given room for 256. Any other answer ends the session.
 abbrev pub CameWith : Result Came StationFault → List ℕ → Type 0
 CameWith (Ok (said.Bytes count)) bytes = length bytes ≡ min count 256
 CameWith (Ok said.End) bytes = bytes ≡ []
 CameWith _ bytes = ⊥
 
--- How a session continues at a keyboard and a screen, with what happens there: a look is made before a step, and bytes come with it, or none; a step
--- is made, which does not end the run; what the program has put is shown, without the echo that is shown already; or more of that echo is shown.
+-- How a session continues at a keyboard and a screen, with what happens there. The session looks at the keyboard before a step, and bytes come, or
+-- none. Or it makes a step that does not end the run. Or it shows what the program has put, except the echo that is shown already. Or it shows more of
+-- that echo.
 pub data Attends {S : Type 0} (sectors : S → Image) (faults : S → ℕ) (start : PlayState S) : PlayState S → Attention → Type 0 where
   begins : Attends sectors faults start start unlooked
   a_look : (patience : Patience) (answer : Result Came StationFault) (bytes : List ℕ) (s : PlayState S) (a : Attention) → Attends sectors faults start s a
@@ -98,11 +99,11 @@ pub data Attends {S : Type 0} (sectors : S → Image) (faults : S → ℕ) (star
   an_echo : (more : List ℕ) (s : PlayState S) (a : Attention) → Attends sectors faults start s a → s.run.system.terminal.console.output ≡ Some [] → next_echo s.run ≡ a.ahead ++ more
       → Attends sectors faults start s (after_show more (a.ahead ++ more) a)
 
--- The session has come to this state of the run, with these arrivals, by steps that do not end the run.
+-- The session has come to this state of the run, with these arrivals, and no step has ended the run.
 abbrev pub ComesTo : {S : Type 0} → (S → Image) → (S → ℕ) → PlayState S → PlayState S → Attention → Type 0
 ComesTo sectors faults start new a = (shown : List ℕ) × Attends sectors faults start (record new { shown = shown }) a
 
--- a last step, which was attended to as each before it, ends the run
+-- A last step ends the run. It was made only when it might be made, as each step before it.
 abbrev pub EndsAttended : {S : Type 0} → (S → Image) → (S → ℕ) → PlayState S → Why → PlayState S → Attention → Type 0
 EndsAttended {S} sectors faults start end new a =
     (s : PlayState S) × Attends sectors faults start s a × (is_finished s.run.machine.cpu.pc ≡ false) × MayStep s.run s.turns a × IsTurn sectors faults (λ d. d) s.run (Some end) new.run
@@ -120,33 +121,33 @@ RunsTo sectors faults start end new a = (NeedsNoStep end × ComesTo sectors faul
 abbrev pub HasRun : {S : Type 0} → (S → Image) → (S → ℕ) → PlayState S → PlayState S → Attention → Type 0
 HasRun sectors faults start new a = ComesTo sectors faults start new a ⊎ ((end : Why) × EndsAttended sectors faults start end new a)
 
--- The keyboard is asked once more, and answers this, and that ends the session.
+-- The keyboard is asked once more, and this answer ends the session.
 abbrev pub EndsByLook : {S : Type 0} → (S → Image) → (S → ℕ) → PlayState S → PlayState S → Result Came StationFault → List SeatEvent → Type 0
 EndsByLook sectors faults start new answer events =
     (a : Attention) × ComesTo sectors faults start new a × ((patience : Patience) × MayLook patience new.run new.turns a × (events ≡ a.events ++ SeatEvent.asked new.turns patience answer ∷ []))
 
--- The screen did not take all bytes of the rest of what was put, or of the echo, and that ends the session.
+-- The screen did not take all bytes, either of what was put and not shown yet, or of the echo. That ends the session.
 abbrev pub EndsByScreen : {S : Type 0} → (S → Image) → (S → ℕ) → PlayState S → PlayState S → List SeatEvent → Type 0
 EndsByScreen sectors faults start new events =
     (a : Attention) × HasRun sectors faults start new a
     × ((bytes : List ℕ) × ((new.run.system.terminal.console.output ≡ Some (a.ahead ++ bytes)) ⊎ (next_echo new.run ≡ a.ahead ++ bytes)) × (events ≡ a.events ++ SeatEvent.not_showed bytes ∷ []))
 
--- The session gives up, though neither the keyboard nor the screen failed: it has waited 4,294,967,295 times or more for the input of one step; or
--- memory ran out for what function 10 puts, so that this does not begin with the echo that is shown.
+-- The session gives up, though neither the keyboard nor the screen failed. Either it has waited 4,294,967,295 times or more for the input of one step,
+-- even if the last of these looks brought it; or memory ran out while function 10 put its echo, so that what was put does not begin with the echo that is shown.
 abbrev pub GivesUpSession : {S : Type 0} → (S → Image) → (S → ℕ) → PlayState S → PlayState S → List SeatEvent → Type 0
 GivesUpSession sectors faults start new events =
     (a : Attention) × ((ComesTo sectors faults start new a × (4294967295 ≤ waits_after new.turns a.events) × (events ≡ a.events))
     ⊎ (EndsAttended sectors faults start (why.Stopped stop.ConsoleFault) new a × ((rest : List ℕ) → new.run.system.terminal.console.output ≢ Some (a.ahead ++ rest)) × (events ≡ a.events)))
 
--- What happened at the keyboard and the screen in a session that ended so. If the run ended, the rest of what the program put was shown last. If the
--- person left, that was the answer to the last look. If memory ran out, it did so for what that brought, or for the echo before a call that takes a
--- line. If the session failed, the last look failed, or the screen did; or the session gave up.
+-- What happened at the keyboard and the screen in a session that ended in this way. If the run ended, what was put and not shown yet was shown last. If
+-- the person left, that was the answer to the last look. If memory ran out, there was none for the bytes that the last look brought, or for the echo
+-- before a call that takes a line, and only if a key was there for the line or the line had no room. If the session failed, the last look failed, or the screen did, or the session gave up.
 abbrev pub HasHappened : {S : Type 0} → (S → Image) → (S → ℕ) → PlayEnd → PlayState S → PlayState S → List SeatEvent → Type 0
 HasHappened sectors faults (play.Run end) start new events =
     (a : Attention) × RunsTo sectors faults start end new a × ((rest : List ℕ) × (new.run.system.terminal.console.output ≡ Some (a.ahead ++ rest)) × (events ≡ a.events ++ SeatEvent.showed rest ∷ []))
 HasHappened sectors faults play.Left start new events = EndsByLook sectors faults start new (Ok said.Leave) events
 HasHappened sectors faults play.NoMemory start new events =
-    ((a : Attention) × ComesTo sectors faults start new a × TakesLine new.run.machine.cpu × (events ≡ a.events)) ⊎ ((count : ℕ) × EndsByLook sectors faults start new (Ok (said.Bytes count)) events)
+    ((a : Attention) × ComesTo sectors faults start new a × TakesLine new.run.machine.cpu × MayHaveEcho new.run × (events ≡ a.events)) ⊎ ((count : ℕ) × (0 < count) × EndsByLook sectors faults start new (Ok (said.Bytes count)) events)
 HasHappened sectors faults play.Failed start new events =
     ((fault : StationFault) × EndsByLook sectors faults start new (Err fault) events) ⊎ (EndsByScreen sectors faults start new events ⊎ GivesUpSession sectors faults start new events)
 
@@ -159,21 +160,20 @@ pub record Arrives (before : Seat) (arrivals : List Arrival) : Type 0 where
   pub came : IfSome before.coming (λ keys. StartsWith keys (arrival_bytes arrivals))
   pub stays : before.leaves [] ≡ false → before.leaves (arrival_bytes arrivals) ≡ false
 
--- All has been shown that the program put, and then these bytes.
+-- The screen has got what was shown in the session, and then these bytes.
 abbrev pub ShowsAll : {S : Type 0} → Seat → Seat → PlayState S → List ℕ → Type 0
 ShowsAll before after new bytes = (more : List ℕ) → Keeps (before.screen (new.shown ++ bytes ++ more)) (after.screen more)
 
--- What is shown before a look besides what the program has put: nothing, or the echo of the line for which it waits.
+-- What the screen has got at a look besides what the program has put: nothing, or the echo of the line for which the look waits.
 abbrev pub IsEcho : {S : Type 0} → RunState S Dialog → List ℕ → Type 0
 IsEcho r echo = (echo ≡ []) ⊎ (echo ≡ next_echo r)
 
--- What the keyboard and the screen tell of a session besides the bytes that arrived and what happened.
--- With the run: all that came has arrived, and all that the program put is shown. A program was told that no key will ever come only if
--- none was left.
--- If the person left: it was by the keys that came, and the last of these did not arrive. All is shown that the program put, and then such an
--- echo, which may be empty.
--- If memory ran out: all is shown that the program put, and then some bytes. This does not say which bytes.
--- If the keyboard or the screen failed: nothing more.
+-- What is known of the keyboard and the screen after a session, besides the bytes that arrived and the events.
+-- If the run ended: all keys that came have arrived, and all that the program put is shown. The run ended for want of input only if no key was left.
+-- If the person left: the keys that came say so, and the last of them did not arrive. All that the program put is shown, and then the echo of a line,
+-- which may be empty.
+-- If memory ran out: all that the program put is shown, and then some bytes. This does not say which bytes.
+-- If the session failed: nothing more.
 abbrev pub Sees : {S : Type 0} → PlayEnd → Seat → Seat → PlayState S → Type 0
 Sees (play.Run end) before after new = Consumes before.coming after.coming (arrival_bytes new.arrivals) × (end ≡ why.Stopped stop.EndOfInput → IsAtEnd after.coming)
     × ((bytes : List ℕ) × (new.run.system.terminal.console.output ≡ Some bytes) × ShowsAll before after new bytes)
@@ -182,7 +182,7 @@ Sees play.Left before after new = ((last : List ℕ) × Consumes before.coming a
 Sees play.NoMemory before after new = (new.run.system.terminal.console.output ≡ Some []) × ((echo : List ℕ) × ShowsAll before after new echo)
 Sees play.Failed before after new = Unit {0}
 
--- Each of these bytes came before the last of this number of steps.
+-- Each of these bytes came before the last of these steps.
 abbrev pub CameBefore : ℕ → List Arrival → Type 0
 CameBefore turns arrivals = (k : ℕ) (one : Arrival) → slice_get arrivals k ≡ Some one → one.turn < turns
 
@@ -191,8 +191,8 @@ abbrev pub first_state : {S : Type 0} → Cpu → List ℕ → Mounted S → Pla
 first_state cpu memory disk = record { run = record { machine = machine cpu memory; system = new_system disk (dialog_of [] (Some []) 0) }; turns = 0; arrivals = []; shown = [] }
 
 -- A session with a program and its words, on a disk, of at most `limit` steps: how it ended, after how many steps and with which PC, the disk
--- then, and the bytes that came. None comes after the run has ended. If the seat tells what happens, this is what happened. If the program
--- cannot be started, there is no step, and nothing happens there.
+-- then, and the bytes that came. None came after the run had ended. If the seat keeps its events, they are those of the session. If the program
+-- cannot be started, no step is made, and nothing happens at the seat.
 abbrev pub IsPlayed : {S : Type 0} → (S → Image) → (S → ℕ) → List ℕ → List (List ℕ) → Mounted S → ℕ → Seat → PlayEnd → ℕ → ℕ → Mounted S → List Arrival → Seat → Type 0
 IsPlayed {S} sectors faults file words disk limit before end turns pc left arrivals after =
     ((cpu : Cpu) × (memory : List ℕ) × (new : PlayState S) × IsStart file words (Ok (cpu, memory)) × PlayEnds sectors faults limit (first_state cpu memory disk) end new
@@ -207,23 +207,38 @@ pub record IsInOrder (recorded : List Arrival) (last : ℕ) : Type 0 where
   pub rising : (j k : ℕ) (one later : Arrival) → j ≤ k → slice_get recorded j ≡ Some one → slice_get recorded k ≡ Some later → one.turn ≤ later.turn
   pub within : (k : ℕ) (one : Arrival) → slice_get recorded k ≡ Some one → one.turn ≤ last
 
--- Each byte of a record came after its number of steps; those that did not come were to come after this number of steps or later.
+-- The bytes of a record as they are due, once this number of steps is made: each after its own number of steps, or at once if more are made already.
+-- In a record that is in order, that is its own number.
+abbrev pub due_from : ℕ → List Arrival → List Arrival
+due_from turns [] = []
+due_from turns (one ∷ more) = record { turn = max turns one.turn; byte = one.byte } ∷ due_from (max turns one.turn) more
+
+-- how many steps are made in all, if these bytes come and the record has this last number of steps
+abbrev pub last_due : ℕ → List Arrival → ℕ → ℕ
+last_due turns [] last = max turns last
+last_due turns (one ∷ more) last = last_due (max turns one.turn) more last
+
+-- The first bytes of a record that is in order came, each after its number of steps. The others were due after this number of steps or later.
 pub record FollowsRecord (recorded : List Arrival) (last turns : ℕ) (arrivals : List Arrival) : Type 0 where
   pub count : ℕ
   pub front : arrivals ≡ take count recorded
   pub later : (k : ℕ) (other : Arrival) → count ≤ k → slice_get recorded k ≡ Some other → turns ≤ other.turn
   pub within : turns ≤ last
 
--- How a session ends that is played again from a record with this last number of steps: with the run; when these steps are made, which is what
--- `Left` says here; or since the screen failed or memory ran out.
+-- The next byte of a record is due after this number of steps.
+abbrev pub NextIsDue : List Arrival → ℕ → List Arrival → Type 0
+NextIsDue recorded turns arrivals = (next : Arrival) × (slice_get recorded (length arrivals) ≡ Some next) × (next.turn ≤ turns)
+
+-- How a session ends that is played again from a record with this last number of steps. Either the run ends; or these steps are made, for which the
+-- answer here is `Left`; or the screen fails, or memory runs out.
 abbrev pub ReplayEnds : {S : Type 0} → (S → Image) → (S → ℕ) → ℕ → ℕ → PlayState S → PlayEnd → PlayState S → Type 0
 ReplayEnds sectors faults limit last start (play.Run end) new = PlayedRunEnds sectors faults limit start end new
 ReplayEnds sectors faults limit last start play.Left new = EndsBetween sectors faults limit start new × (last ≤ new.turns)
 ReplayEnds sectors faults limit last start play.Failed new = PlaysOn sectors faults start new ⊎ ((end : Why) × PlayedRunEnds sectors faults limit start end new)
 ReplayEnds sectors faults limit last start play.NoMemory new = PlaysOn sectors faults start new
 
--- The keyboard is not asked. All is shown that the program put, unless the screen failed: then it did not take all bytes, and that is the last that
--- happened.
+-- The keyboard is not asked. All that the program put is shown, unless the screen failed. If it failed, it did not take all bytes, and nothing
+-- happened after that.
 pub record IsShownAgain {S : Type 0} (end : PlayEnd) (before after : Seat) (new : PlayState S) : Type 0 where
   pub coming : after.coming ≡ before.coming
   pub leaves : after.leaves ≡ before.leaves
@@ -231,11 +246,11 @@ pub record IsShownAgain {S : Type 0} (end : PlayEnd) (before after : Seat) (new 
   pub all : end ≢ play.Failed → (bytes : List ℕ) × (new.run.system.terminal.console.output ≡ Some bytes) × ShowsAll before after new bytes
   pub failed : end ≡ play.Failed → (events : List SeatEvent) × (bytes : List ℕ) × (after.events ≡ with_events (events ++ SeatEvent.not_showed bytes ∷ []) before.events)
 
--- A program is played again from a record. Memory runs out only for a byte of the record that is still to come. If the record is in order, the bytes
--- came as it says; and all of them, if the session ended as if the person left.
+-- A program is played again from a record. Memory runs out only for the next byte of the record, once it is due. The bytes came when they
+-- were due, and all of them if the session ended as if the person left.
 abbrev pub IsReplayed : {S : Type 0} → (S → Image) → (S → ℕ) → List ℕ → List (List ℕ) → Mounted S → ℕ → List Arrival → ℕ → Seat → PlayEnd → ℕ → ℕ → Mounted S → List Arrival → Seat → Type 0
 IsReplayed {S} sectors faults file words disk limit recorded last before end turns pc left arrivals after =
     ((cpu : Cpu) × (memory : List ℕ) × (new : PlayState S) × IsStart file words (Ok (cpu, memory)) × ReplayEnds sectors faults limit last (first_state cpu memory disk) end new
-    × (turns ≡ new.turns) × (turns ≤ limit) × (pc ≡ new.run.machine.cpu.pc) × (left ≡ new.run.system.disk) × (arrivals ≡ new.arrivals) × IsShownAgain end before after new × (end ≡ play.NoMemory → length arrivals < length recorded)
-    × (IsInOrder recorded last → FollowsRecord recorded last turns arrivals × (end ≡ play.Left → arrivals ≡ recorded)))
+    × (turns ≡ new.turns) × (turns ≤ limit) × (pc ≡ new.run.machine.cpu.pc) × (left ≡ new.run.system.disk) × (arrivals ≡ new.arrivals) × IsShownAgain end before after new × (end ≡ play.NoMemory → NextIsDue recorded turns arrivals)
+    × FollowsRecord (due_from 0 recorded) (last_due 0 recorded last) turns arrivals × (end ≡ play.Left → arrivals ≡ due_from 0 recorded))
     ⊎ ((no : StartFault) × IsStart file words (Err no) × (end ≡ play.Run (unstarted no)) × (turns ≡ 0) × (pc ≡ 0x0100) × (left ≡ disk) × (arrivals ≡ []) × (after ≡ before))

@@ -9,7 +9,7 @@ use Rattle.cpm_run.specs.declared.fault.StartFault.{StartFault}
 use Rattle.cpm_run.specs.declared.fault.StartFault.TheVariants as fault
 use Rattle.cpm_run.specs.Start.{IsStart}
 use Rattle.cpm_bdos.specs.System.{new_system}
-use Rattle.cpm_fcb.specs.Stops.{stop_text}
+use Rattle.cpm_disk.specs.Control.Stops.{stop_text}
 use Rattle.cpm_run.specs.declared.ending.Why.{Why}
 use Rattle.cpm_run.specs.declared.ending.Why.TheVariants as why
 use Rattle.cpm_run.specs.Turns.{Goes, IsTurn, RunState, is_finished}

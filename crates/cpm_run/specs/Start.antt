@@ -4,11 +4,11 @@ use Rattle.std.specs.List.{flat_map, range_with_len}
 use Rattle.common.specs.declared.limits.TheConstants.{LONGEST_PROGRAM}
 use Rattle.z80_cpu.specs.declared.registers.Cpu.{Cpu}
 use Rattle.z80_cpu.specs.Cleared.{cleared}
-use Rattle.cpm_fcb.specs.Bytes.{with_bytes}
-use Rattle.cpm_run.specs.declared.words.TheConstants.{LONGEST_TAIL}
+use Rattle.cpm_disk.specs.Control.Bytes.{with_bytes}
+use Rattle.cpm_disk.specs.declared.words.TheConstants.{LONGEST_TAIL}
 use Rattle.cpm_run.specs.declared.fault.StartFault.{StartFault}
 use Rattle.cpm_run.specs.declared.fault.StartFault.TheVariants as fault
-use Rattle.cpm_run.specs.Words.{control, tail_of, upper_word}
+use Rattle.cpm_disk.specs.Control.Words.{control, tail_of, upper_word}
 
 -- JP to an address, given by its two bytes
 abbrev pub jump_bytes : ℕ → ℕ → List ℕ

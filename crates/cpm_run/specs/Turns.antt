@@ -8,7 +8,7 @@ use Rattle.z80_turns.specs.declared.outcome.Step.TheVariants as step
 use Rattle.z80_cpu.specs.declared.registers.Cpu.{Cpu}
 use Rattle.cpm_console.specs.Dialog.{Dialog}
 use Rattle.cpm_disk.specs.Image.{Image}
-use Rattle.cpm_fcb.specs.declared.stop.Stop.{Stop}
+use Rattle.cpm_disk.specs.declared.control.stop.Stop.{Stop}
 use Rattle.cpm_bdos.specs.declared.outcome.After.{After}
 use Rattle.cpm_bdos.specs.declared.outcome.After.TheVariants as after
 use Rattle.cpm_bdos.specs.Answer.{BiosAnswers, CallAnswers}

@@ -1,7 +1,7 @@
 //! The bytes that arrive in a session at a keyboard, and why it ends.
 
 use crate::ending::Why;
-use crate::station::StationFault;
+use cpm_console::StationFault;
 use std::alloc::AllocError;
 
 /// A byte that came, and the number of steps that were made before it.

@@ -5,8 +5,8 @@ ghost use Rattle.cpm_bdos.specs.Functions.{function_of};
 ghost use Rattle.cpm_run.specs.Looks.{TakesLine, call_patience, patience_of};
 
 use crate::places::{BDOS, bios_entry};
-use crate::station::Patience;
 use cpm_bdos::{BiosEntry, ConsoleCall, Function};
+use cpm_console::Patience;
 use z80_cpu::Cpu;
 
 /// With this in E, function 6 takes a byte.

@@ -10,13 +10,13 @@ ghost use Rattle.cpm_bdos.specs.System.{new_system};
 ghost use Rattle.cpm_run.specs.declared.arriving.Arrival.{Arrival};
 ghost use Rattle.cpm_run.specs.declared.arriving.PlayEnd.{PlayEnd};
 ghost use Rattle.cpm_run.specs.declared.ending.Why.{Why};
-ghost use Rattle.cpm_fcb.specs.declared.stop.Stop.TheVariants as stop;
+ghost use Rattle.cpm_disk.specs.declared.control.stop.Stop.TheVariants as stop;
 ghost use Rattle.cpm_run.specs.declared.ending.Why.TheVariants as why;
-ghost use Rattle.cpm_run.specs.AlikeSessions.{AlikeSessions};
+ghost use Rattle.cpm_run.specs.AlikeSessions.{AlikeSessions, IsEchoAfter, SameShown};
 ghost use Rattle.cpm_run.specs.Looks.{LacksInput};
 ghost use Rattle.cpm_run.specs.Play.{EndsBy, IsInOrder, IsPlayed, IsReplayed, PlayState, PlayedRunEnds, PlaysOn, arrived, first_state};
 ghost use Rattle.cpm_run.specs.Run.{IsRun, TurnsEnd};
-ghost use Rattle.cpm_run.specs.Seat.{Seat};
+ghost use Rattle.cpm_console.specs.Seat.{Seat};
 ghost use Rattle.cpm_run.specs.Turns.{IsTurn, RunState};
 ghost use Rattle.cpm_run.specs.Undisturbed.{EndsUndisturbed, IsUndisturbed};
 
@@ -68,14 +68,14 @@ pub fn bytes_in_order<S: Sectors>()
 {}
 
 /// A session that is played again from its own record ends as it did: for the same reason, after the same number of steps, with the same PC
-/// and a disk that looks alike, and the same bytes came. This does not hold if memory ran out, or if the disk, the console, the keyboard or
-/// the screen failed, in either of the two.
+/// and a disk that looks alike. The same bytes came, and the same bytes were shown, except the echo of a line that was not finished when the
+/// person left. This is not said if memory ran out, or if the disk, the console, the keyboard or the screen failed, in either of the two.
 pub fn replayed_alike<S: Sectors>()
     ensures { (file : List ℕ) (words : List (List ℕ)) (disk other left there : Mounted S) (limit turns steps pc address : ℕ) (before after seat screen : Seat) (end cause : PlayEnd) (arrivals came : List Arrival) →
         AlikeDisks S.sectors disk other → EndsUndisturbed end → EndsUndisturbed cause →
         IsPlayed S.sectors S.faults file words disk limit before end turns pc left arrivals after →
         IsReplayed S.sectors S.faults file words other limit arrivals turns seat cause steps address there came screen →
-        (cause ≡ end) × (steps ≡ turns) × (address ≡ pc) × AlikeDisks S.sectors left there × (came ≡ arrivals) }
+        (cause ≡ end) × (steps ≡ turns) × (address ≡ pc) × AlikeDisks S.sectors left there × (came ≡ arrivals) × SameShown (IsEchoAfter S.sectors S.faults file words disk turns) end before after seat screen }
 {
     z80_machine::laws::one_turn();
 }

@@ -5,7 +5,7 @@ ghost use Rattle.cpm_run.specs.declared.arriving.PlayEnd.TheVariants as play;
 ghost use Rattle.cpm_run.specs.declared.ending.Why.{Why};
 ghost use Rattle.cpm_run.specs.Run.{unstarted};
 ghost use Rattle.cpm_run.specs.Play.{Arrives, CameBefore, IsPlayed, PlayState, PlayEnds, Sees};
-ghost use Rattle.cpm_run.specs.Seat.{Seat};
+ghost use Rattle.cpm_console.specs.Seat.{Seat};
 ghost use Rattle.cpm_run.specs.Private.Playing.{Begins, Ends, GoesRound, HasEnded, HasStopped, OnlyShows, Rests, RestsOn, state_of};
 
 pub(crate) mod state;
@@ -16,14 +16,14 @@ use crate::ending::{Why, unstarted};
 use crate::fault::StartFault;
 use crate::places::is_finished;
 use crate::starting::start;
-use crate::station::Station;
+use cpm_console::Station;
 use cpm_disk::Disk;
 use cpm_image::Sectors;
 use state::Playing;
 use std::alloc::Global;
 
 /// The machine makes at most this number of steps before the session may look at the keyboard again, so that a person can leave a program
-/// that makes no calls. A look comes only once `LONGEST_UNSEEN` steps follow the last one, so up to 4,000,000 steps are between two looks.
+/// that makes no calls. A look is made only once the last one is `LONGEST_UNSEEN` steps ago, so two looks are up to 4,000,000 steps apart.
 pub(crate) const SLICE: u64 = 2_000_000;
 
 /// How a session ended, the disk then, and the bytes that came.

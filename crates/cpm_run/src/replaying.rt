@@ -1,9 +1,9 @@
 //! Runs a program again as in an earlier session, with the bytes of its record.
 
-ghost use Rattle.std.specs.Prelude.{◌≡◌, ◌≢◌, ◌≤◌, ◌<◌, [], ℕ, Err, IfOk, List, OnOk, length, map, true};
+ghost use Rattle.std.specs.Prelude.{◌≡◌, ◌≢◌, ◌≤◌, ◌<◌, [], ℕ, Err, IfOk, List, OnOk, map, max, true};
 ghost use Rattle.cpm_run.specs.declared.arriving.PlayEnd.TheVariants as play;
-ghost use Rattle.cpm_run.specs.Play.{FollowsRecord, IsInOrder, IsReplayed, IsShownAgain, PlayState, ReplayEnds};
-ghost use Rattle.cpm_run.specs.Seat.{Seat};
+ghost use Rattle.cpm_run.specs.Play.{FollowsRecord, IsReplayed, IsShownAgain, NextIsDue, PlayState, ReplayEnds, due_from, last_due};
+ghost use Rattle.cpm_console.specs.Seat.{Seat};
 ghost use Rattle.cpm_run.specs.Private.Playing.{EndsTold, HasReached, IsQuiet, IsUnasked, OnlyShows, Repeats, RepeatsTo, Stands, ToldOn, state_of};
 
 use crate::arriving::{Arrival, PlayEnd};
@@ -12,7 +12,7 @@ use crate::places::is_finished;
 use crate::playing::state::Playing;
 use crate::playing::{Played, SLICE, unplayed};
 use crate::starting::start;
-use crate::station::Station;
+use cpm_console::Station;
 use cpm_disk::Disk;
 use cpm_image::Sectors;
 use std::alloc::Global;
@@ -28,7 +28,8 @@ impl<S: Sectors> Playing<S> {
         requires bound { self.old.turns ≤ limit }
         requires within { target ≤ limit }
         ensures bound { self.new.turns ≤ limit }
-        ensures target { self.old.turns ≤ target → self.new.turns ≤ target }
+        ensures target { self.new.turns ≤ max self.old.turns target }
+        ensures least { self.old.turns ≤ self.new.turns }
         ensures arrivals { self.new.arrivals.items ≡ self.old.arrivals.items }
         ensures reached { IfOk result (λ done. HasReached target limit done self.old self.new) }
         ensures ending { result ≢ Err play.Left }
@@ -63,7 +64,8 @@ impl<S: Sectors> Playing<S> {
         requires bound { self.old.turns ≤ limit }
         requires within { target ≤ limit }
         ensures bound { self.new.turns ≤ limit }
-        ensures target { self.old.turns ≤ target → self.new.turns ≤ target }
+        ensures target { self.new.turns ≤ max self.old.turns target }
+        ensures least { self.old.turns ≤ self.new.turns }
         ensures arrivals { self.new.arrivals.items ≡ self.old.arrivals.items }
         ensures reached { OnOk result (HasReached target limit true self.old self.new) }
         ensures ending { result ≢ Err play.Left }
@@ -92,8 +94,8 @@ impl<S: Sectors> Playing<S> {
     ) -> PlayEnd
         requires bound { self.old.turns ≤ limit }
         ensures bound { self.new.turns ≤ limit }
-        ensures follows { self.old.arrivals.items ≡ [] → self.old.turns ≡ 0 → IsInOrder recorded.now last → FollowsRecord recorded.now last self.new.turns self.new.arrivals.items × (result ≡ play.Left → self.new.arrivals.items ≡ recorded.now) }
-        ensures short { self.old.arrivals.items ≡ [] → result ≡ play.NoMemory → length self.new.arrivals.items < length recorded.now }
+        ensures follows { self.old.arrivals.items ≡ [] → self.old.turns ≡ 0 → FollowsRecord (due_from 0 recorded.now) (last_due 0 recorded.now last) self.new.turns self.new.arrivals.items × (result ≡ play.Left → self.new.arrivals.items ≡ due_from 0 recorded.now) }
+        ensures short { self.old.arrivals.items ≡ [] → result ≡ play.NoMemory → NextIsDue recorded.now self.new.turns self.new.arrivals.items }
         ensures told { (before : Seat) → IsQuiet before self.old (K.seat station.old) → EndsTold result before self.new (K.seat station.new) }
         ensures keys { IsUnasked (K.seat station.old) (K.seat station.new) }
         ensures stands { (start : PlayState S) (before : Seat) → Stands S.sectors S.faults start before self.old (K.seat station.old) → RepeatsTo S.sectors S.faults limit last result start before self.new (K.seat station.new) }

@@ -3,13 +3,13 @@
 ghost use Rattle.std.specs.Prelude.{◌≡◌, ◌≤◌, IfOk, length, map};
 ghost use Rattle.common.specs.declared.limits.TheConstants.{LONGEST_PROGRAM};
 ghost use Rattle.cpm_run.specs.Start.{IsStart, start_cpu, start_memory, command_word};
-ghost use Rattle.cpm_run.specs.Words.{control, tail_of};
-ghost use Rattle.cpm_run.specs.declared.words.TheConstants.{LONGEST_TAIL};
+ghost use Rattle.cpm_disk.specs.Control.Words.{control, tail_of};
+ghost use Rattle.cpm_disk.specs.declared.words.TheConstants.{LONGEST_TAIL};
 
 use crate::fault::StartFault;
-use crate::words::{LONGEST_TAIL, control, tail_of, upper};
 use common::LONGEST_PROGRAM;
-use cpm_fcb::put_bytes;
+use cpm_disk::put_bytes;
+use cpm_disk::words::{LONGEST_TAIL, control, tail_of, upper};
 use std::alloc::{AllocError, Global};
 use z80_cpu::{Cpu, Memory};
 

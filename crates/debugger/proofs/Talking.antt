@@ -5,7 +5,7 @@ use Rattle.std.proofs.lemmas.Bool.{true≢false}
 use Rattle.std.proofs.lemmas.Grind.{flat_map-append}
 use Rattle.std.proofs.lemmas.List.Elements.{All-append, All-nil, All-push}
 use Rattle.std.specs.Io.KnownBytes.{Appends, Consumes, IsAtEnd, Keeps}
-use Rattle.streams.specs.Stream.{Stream}
+use Rattle.host.specs.Streams.Stream.{Stream}
 use Rattle.debugger.specs.Conversation.{BeginsLines, HasNoEnd, SessionState, Talks, TalksOn, TalksSoFar, TalksThrough, with_ends}
 use Rattle.debugger.specs.Conversation.Talks.{none, more}
 use Rattle.state_text.specs.Labelled.{Known}

@@ -8,7 +8,7 @@ use Rattle.cpm_disk.specs.Calls.{Mounted}
 use Rattle.cpm_disk.specs.Image.{Image}
 use Rattle.cpm_run.specs.Start.{IsStart}
 use Rattle.cpm_run.specs.declared.arriving.Arrival.{Arrival}
-use Rattle.streams.specs.Stream.{Stream, counted}
+use Rattle.host.specs.Streams.Stream.{Stream, counted}
 use Rattle.debugger.specs.declared.conversation.Broken.{Broken}
 use Rattle.debugger.specs.declared.conversation.Broken.TheVariants as broken
 use Rattle.debugger.specs.declared.debugging.DebugFault.{DebugFault}

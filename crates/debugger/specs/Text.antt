@@ -1,5 +1,5 @@
 -- What is printed for the commands that show something.
-use Rattle.std.specs.Prelude.{◌≡◌, ◌==◌, ◌&&◌, ◌||◌, ℕ, Bool, List, [], ◌∷◌, ◌++◌, ◌*◌, Option, Some, None, codes, decimal, drop, filter, if◌then◌else◌, length, map, nat_eq, nat_lt, not, slice_index, take, true}
+use Rattle.std.specs.Prelude.{◌≡◌, ◌==◌, ◌&&◌, ℕ, Bool, List, [], ◌∷◌, ◌++◌, ◌*◌, Option, Some, None, codes, decimal, drop, filter, if◌then◌else◌, length, map, nat_eq, nat_lt, not, slice_index, take, true}
 use Rattle.std.specs.List.{enumerate_from, flat_map, list_all, position_or_len, starts_with, take_while}
 use Rattle.bstr.specs.Text.{lines_of, without_terminator}
 use Rattle.cpm_run.specs.Run.{why_text}
@@ -7,14 +7,13 @@ use Rattle.cpm_run.specs.Turns.{bdos}
 use Rattle.cpm_run.specs.declared.ending.Why.{Why}
 use Rattle.hex.specs.Hex.{encode_upper}
 use Rattle.z80_cpu.specs.State.{Machine, byte_at, down_by, up_by, word_at}
-use Rattle.state_text.specs.Printing.Columns.{column, word_text}
+use Rattle.state_text.specs.Printing.Columns.{word_text}
 use Rattle.state_text.specs.Printing.Memory.{memory_text, shown_character}
 use Rattle.state_text.specs.Printing.Registers.{registers_text}
 use Rattle.debugger_commands.specs.declared.command.Command.{Command}
 use Rattle.debugger_commands.specs.declared.command.Command.TheVariants as command
 use Rattle.machine_history.specs.declared.history.Outcome.{Outcome}
 use Rattle.machine_history.specs.declared.history.Outcome.TheVariants as outcome
-use Rattle.debugger.specs.declared.session.TheConstants.{HELP}
 use Rattle.state_text.specs.declared.breakpoint.Breakpoint.{Breakpoint}
 use Rattle.machine_history.specs.declared.stops.Change.{Change}
 use Rattle.state_text.specs.declared.breakpoint.Condition.{Condition}
@@ -22,14 +21,13 @@ use Rattle.machine_history.specs.declared.stops.Hit.{Hit}
 use Rattle.machine_history.specs.declared.stops.Hit.TheVariants as hit
 use Rattle.machine_history.specs.declared.stops.Stops.{Stops}
 use Rattle.machine_history.specs.declared.stops.Watch.{Watch}
-use Rattle.debugger_commands.specs.declared.verb.Verb.{Verb}
 use Rattle.debugger.specs.Instructions.{code_text, instruction_at}
 use Rattle.state_text.specs.Labelled.{Known}
 use Rattle.debugger.specs.Addresses.{address_with_label}
 use Rattle.machine_history.specs.Stops.{IsLast}
 use Rattle.state_text.specs.RegisterNames.{register_name}
-use Rattle.debugger_commands.specs.Typed.{argument_forms, verb_name}
 use Rattle.machine_history.specs.Walk.{Shown}
+use Rattle.debugger_commands.specs.Help.{help_answer}
 
 -- ---- breakpoints and watched bytes
 
@@ -218,11 +216,17 @@ most_turns = 100000000
 abbrev pub nothing_held : List ℕ
 nothing_held = codes "nothing held before: this is the start\n"
 
+-- what `run ADDR` says if the run has ended and no step of this command led to ADDR; nothing without an address
+abbrev pub missed_text : Known → Option ℕ → List ℕ
+missed_text known None = []
+missed_text known (Some address) = address_with_label known address ++ codes " was not reached\n"
+
 -- Why such a command has stopped before the end of the run, unless it has reached what it was to reach. `none` is said if nothing stopped it.
 abbrev pub outcome_text : Known → List ℕ → Option Outcome → List ℕ
 outcome_text known none (Some (outcome.Held (hit.Breakpoint address))) = codes "breakpoint " ++ address_with_label known address ++ codes "\n"
 outcome_text known none (Some (outcome.Held (hit.Changed change))) = codes "watch " ++ change_line known change
 outcome_text known none (Some outcome.Limit) = codes "limit of " ++ decimal most_turns ++ codes " turns\n"
+outcome_text known none (Some outcome.Ended) = none
 outcome_text known none None = none
 outcome_text known none told = []
 
@@ -255,32 +259,6 @@ stack_offsets = 0 ∷ 2 ∷ 4 ∷ 6 ∷ 8 ∷ 10 ∷ 12 ∷ 14 ∷ []
 abbrev pub stack_text : Known → List ℕ → ℕ → List ℕ
 stack_text known memory sp = flat_map (λ offset. stack_word_line known memory (up_by offset sp)) stack_offsets
 
--- ---- the list of `help`
-
--- the forms of commands, with commas between them
-abbrev pub verb_forms : List Verb → List ℕ
-verb_forms [] = []
-verb_forms (verb ∷ []) = verb_name verb ++ argument_forms verb
-verb_forms (verb ∷ next ∷ more) = verb_name verb ++ argument_forms verb ++ codes ", " ++ verb_forms (next ∷ more)
-
--- a line of `help`: the forms of some commands, and what these do, from the 27th column on
-abbrev pub help_line : List Verb × List ℕ → List ℕ
-help_line entry = column 25 (verb_forms entry.0) ++ entry.1 ++ codes "\n"
-
--- words of one line that show no optional argument, which would be in brackets
-abbrev pub is_prose : List ℕ → Bool
-is_prose words = list_all (λ byte. not ((byte == 0x5B) || (byte == 0x0A))) words
-
--- A list has exactly these commands in their forms, in this order, one or more to a line; then come lines of prose.
-abbrev pub ListsVerbs : List Verb → List ℕ → Type 0
-ListsVerbs verbs text =
-    (entries : List (List Verb × List ℕ)) × (notes : List (List ℕ)) × (flat_map (λ entry. entry.0) entries ≡ verbs) × (list_all (λ entry. is_prose entry.1) entries ≡ true)
-    × (list_all is_prose notes ≡ true) × (text ≡ flat_map help_line entries ++ flat_map (λ note. note ++ codes "\n") notes)
-
--- A text fits on a terminal of 24 lines of 80 columns, with a line left for the next command.
-abbrev pub FitsTerminal : List ℕ → Type 0
-FitsTerminal text = (nat_lt (length (lines_of text)) 24 ≡ true) × (list_all (λ line. nat_lt (length (without_terminator line)) 80) (lines_of text) ≡ true)
-
 -- ---- what a command prints, given the breakpoints and watched bytes before it, how it ended, and what is shown before and after it. Of
 -- `files` this says nothing.
 abbrev pub Says : Command → Stops → Option Outcome → Shown → Shown → Known → List ℕ → List ℕ → Type 0
@@ -294,13 +272,13 @@ Says (command.Delete address) stops told old shown known listing text = text ≡
 Says command.Info stops told old shown known listing text = text ≡ listed_stops known stops command.Info
 Says (command.Disassemble from count) stops told old shown known listing text = text ≡ code_text known shown.point.state.machine from count
 Says command.Stack stops told old shown known listing text = text ≡ stack_text known shown.point.state.machine.memory shown.point.state.machine.cpu.sp
-Says command.Help stops told old shown known listing text = text ≡ HELP.now
+Says (command.Help asked) stops told old shown known listing text = text ≡ help_answer asked
 Says command.Quit stops told old shown known listing text = text ≡ []
 Says command.Output stops told old shown known listing text = (bytes : List ℕ) × Printed shown bytes × (text ≡ output_text bytes)
 Says (command.Step count) stops told old shown known listing text = SaysWhere [] told old shown known text
 Says (command.Back count) stops told old shown known listing text = SaysWhere [] told old shown known text
 Says (command.Turn turn) stops told old shown known listing text = SaysWhere [] told old shown known text
-Says (command.Run address) stops told old shown known listing text = SaysWhere [] told old shown known text
+Says (command.Run address) stops told old shown known listing text = SaysWhere (missed_text known address) told old shown known text
 Says command.Next stops told old shown known listing text = SaysWhere [] told old shown known text
 Says command.Finish stops told old shown known listing text = SaysWhere [] told old shown known text
 Says command.BackRun stops told old shown known listing text = SaysWhere nothing_held told old shown known text

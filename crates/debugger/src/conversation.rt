@@ -9,8 +9,8 @@ ghost use Rattle.debugger.specs.Session.{Obeys};
 ghost use Rattle.machine_history.specs.Walk.{IsTrue_of_run};
 
 use crate::session::Session;
+use host::{Input, ReadFault, Sink, print};
 use std::alloc::{AllocError, AllocFailed, Global};
-use streams::{Input, ReadFault, Sink, print};
 
 /// The most reads of the commands.
 pub const MOST_READS: u64 = 4_294_967_296;

@@ -12,10 +12,10 @@ use cpm_console::MemoryConsole;
 use cpm_disk::Disk;
 use cpm_image::MemoryImage;
 use cpm_run::{Arrival, StartFault};
+use host::{Input, Sink};
 use machine_history::History;
 use state_text::{Labels, Symbol};
 use std::alloc::Global;
-use streams::{Input, Sink};
 
 /// A program with its words, its disk, what is typed before it starts, the bytes of a record, and its listing, empty if there is none. Each
 /// byte of the record comes after its number of turns.

@@ -10,11 +10,11 @@ ghost use Rattle.debugger.specs.Conversation.{SessionState, Talks};
 ghost use Rattle.machine_history.specs.Going.{IsFirstShown};
 ghost use Rattle.state_text.specs.Labelled.{Known};
 ghost use Rattle.debugger.specs.Session.{IsSameRun, Moves};
-ghost use Rattle.debugger.specs.Text.{FitsTerminal, ListsVerbs};
+ghost use Rattle.debugger_commands.specs.Help.{EachHasOneLine, FitsTerminal, ListsVerbs};
 ghost use Rattle.debugger_commands.specs.Typed.{every_verb};
 ghost use Rattle.debugger_commands.specs.declared.command.Command.{Command};
 ghost use Rattle.machine_history.specs.declared.history.Outcome.{Outcome};
-ghost use Rattle.debugger.specs.declared.session.TheConstants.{HELP};
+ghost use Rattle.debugger_commands.specs.declared.help.TheConstants.{HELP};
 ghost use Rattle.machine_history.specs.declared.stops.Stops.{Stops};
 ghost use Rattle.machine_history.specs.Walk.{IsTrue_of_run, Shown};
 
@@ -37,8 +37,9 @@ pub fn one_move()
 }
 
 /// The list that `help` prints has each command in its form, in the order in which a shortened word is looked for among them, and fits on a
-/// terminal of 24 lines of 80 columns.
+/// terminal of 24 lines of 80 columns. `help` with a command prints one line of it.
 pub fn help_is_in_order()
     ensures order { ListsVerbs every_verb HELP.now }
     ensures fits { FitsTerminal HELP.now }
+    ensures each { EachHasOneLine every_verb }
 {}

@@ -5,10 +5,10 @@ ghost use Rattle.debugger.specs.Session.{at_place};
 
 use crate::setting::{chosen, set};
 use crate::text::{
-    put_breakpoint, put_files, put_instructions, put_outcome, put_output, put_point, put_stack,
-    put_stops, put_watch, put_where, put_who,
+    put_breakpoint, put_files, put_instructions, put_missed, put_outcome, put_output, put_point,
+    put_stack, put_stops, put_watch, put_where, put_who,
 };
-use debugger_commands::{Command, command_of, refusal_line};
+use debugger_commands::{Command, HELP, Verb, command_of, put_help, refusal_line};
 use machine_history::{Goal, History, Hit, Outcome, ReturnPlace, Stops, Watch, call_place};
 use state_text::{Breakpoint, Condition, Labels, RegisterName, put_memory, put_registers};
 use std::alloc::{AllocError, Global};
@@ -24,31 +24,6 @@ const NOTHING_SET: &[u8] = b"no breakpoints, and no watched bytes\n";
 
 /// What is said if nothing is set at an address.
 const NOTHING_THERE: &[u8] = b"no breakpoint and no watched byte is there\n";
-
-const HELP: &[u8] = b"step [N], next            N turns (1); one turn, or all of a call
-finish                    run to the first return with SP higher after it
-run [ADDR]                run to ADDR, a breakpoint, a watched byte, or the end
-back [N], back-next       N turns back (1); one turn back, or all of a call
-back-run                  go back to the last breakpoint or watched change
-turn N                    go to the state after N turns from the start
-where, regs               PC with its line of the listing; registers, DMA, user
-mem ADDR [N]              N bytes of memory (16)
-dis ADDR [N]              N instructions (8)
-stack, output             the top of the stack; what the program has printed
-who ADDR                  the last turn that changed this byte
-break ADDR [if REG=VALUE] stop when PC is ADDR, and REG has this value
-watch ADDR [N]            stop at a turn that changes this byte, or one of N
-info                      list the breakpoints and the watched bytes
-delete [ADDR]             forget those at ADDR, or all of them, and list them
-files                     the files of the disk: user, name and records
-help, quit                this list; end the session
-A word may be shortened. It stands for the first command above, line by line,
-left to right, that begins so: s is step, br is break. ADDR is a label, or PC,
-SP, AF, BC, DE, HL, IX or IY, each also with a number as in TEXT+1 or SP-2; or
-four hexadecimal digits as they are printed; or a number of the assembler, as
-125H or 293. VALUE is the same, but no register: write the byte BC as 0BCH. A
-turn that writes the same value does not change a byte.
-";
 
 /// A session about one run.
 #[derive(Drop)]
@@ -88,7 +63,8 @@ impl<'a> Session<'a> {
     ghost use Rattle.debugger.specs.Instructions.{code_text};
     ghost use Rattle.state_text.specs.Printing.Memory.{memory_text};
     ghost use Rattle.state_text.specs.Printing.Registers.{registers_text};
-    ghost use Rattle.debugger.specs.Text.{Printed, Says, SaysWhere, SaysWho, Watches, breakpoint_line, listed_stops, output_text, stack_text, stops_text, watch_line, where_text};
+    ghost use Rattle.debugger.specs.Text.{Printed, Says, SaysWhere, SaysWho, Watches, breakpoint_line, listed_stops, missed_text, output_text, stack_text, stops_text, watch_line, where_text};
+    ghost use Rattle.debugger_commands.specs.Help.{help_answer};
     ghost use Rattle.machine_history.specs.declared.stops.Stops.{Stops as TheStops};
     ghost use Rattle.debugger.specs.Session.{BackNexts, BackRuns, GoesTo, Obeys, Moves, Nexts, RunsOn, Sets, is_quit};
     ghost use Rattle.machine_history.specs.Walk.{IsTrue_of_run, Shown};
@@ -384,6 +360,32 @@ impl<'a> Session<'a> {
         Ok(text)
     }
 
+    /// The same for `run`: it says so if no step of it led to its address.
+    fn ran(
+        &self,
+        address: Option<u16>,
+        told: Option<Outcome>,
+        printed: usize,
+    ) -> Result<Vec<u8>, AllocError>
+        ensures { (old : Shown) (before : List ℕ) → Printed old before → printed ≡ length before → IfOk result (λ text. SaysWhere (missed_text self.now.labels address) told old self.now.history self.now.labels text.items) }
+    {
+        let mut missed = Vec::new(self.alloc);
+        put_missed(self.alloc, &self.labels, address, &mut missed)?;
+        self.moved(&missed, told, printed)
+    }
+
+    /// The list of the commands, or its lines of one.
+    fn help(&self, asked: Option<Verb>) -> Result<Vec<u8>, AllocError>
+        ensures { IfOk result (λ text. text.items ≡ help_answer asked) }
+    {
+        let Some(verb) = asked else {
+            return Ok(HELP.to_vec(self.alloc)?);
+        };
+        let mut text = Vec::new(self.alloc);
+        put_help(self.alloc, verb, &mut text)?;
+        Ok(text)
+    }
+
     /// Instructions.
     fn code(&self, from: u16, count: u16) -> Result<Vec<u8>, AllocError>
         ensures { IfOk result (λ text. text.items ≡ code_text self.now.labels self.now.history.point.state.machine from «count») }
@@ -454,11 +456,11 @@ impl<'a> Session<'a> {
             Command::Stack => self.stack(),
             Command::Output => self.output(),
             Command::Files => self.files(),
-            Command::Help => Ok(HELP.to_vec(self.alloc)?),
+            Command::Help(asked) => self.help(asked),
             Command::Step(_) => self.moved(b"", told, printed),
             Command::Back(_) => self.moved(b"", told, printed),
             Command::Turn(_) => self.moved(b"", told, printed),
-            Command::Run(_) => self.moved(b"", told, printed),
+            Command::Run(address) => self.ran(address, told, printed),
             Command::Next => self.moved(b"", told, printed),
             Command::Finish => self.moved(b"", told, printed),
             Command::BackRun => self.moved(NOTHING_HELD, told, printed),

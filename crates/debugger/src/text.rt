@@ -8,7 +8,7 @@ ghost use Rattle.debugger.specs.Instructions.{bios_entry_at, code_text, decoded_
 ghost use Rattle.state_text.specs.Labelled.{label_after};
 ghost use Rattle.debugger.specs.Addresses.{address_with_label};
 ghost use Rattle.state_text.specs.Printing.Instructions.{byte_number};
-ghost use Rattle.debugger.specs.Text.{are_as_listed, begins_at, breakpoint_line, breakpoint_lines, call_text, change_line, changer_text, condition_after, count_after, has_address, is_as_listed, is_further_row, listed_character, listed_columns, listed_digits, listing_note, listing_text, outcome_text, output_text, point_line, point_text, printed_line, rows_from, stack_word_line, stack_text, stops_text, unchanged_line, values_text, watch_line, watch_lines, where_text, who_text};
+ghost use Rattle.debugger.specs.Text.{are_as_listed, begins_at, breakpoint_line, breakpoint_lines, call_text, change_line, changer_text, condition_after, count_after, has_address, is_as_listed, is_further_row, listed_character, listed_columns, listed_digits, listing_note, listing_text, missed_text, outcome_text, output_text, point_line, point_text, printed_line, rows_from, stack_word_line, stack_text, stops_text, unchanged_line, values_text, watch_line, watch_lines, where_text, who_text};
 
 use crate::session::MOST_TURNS;
 use bstr::ByteSlice;
@@ -352,9 +352,26 @@ pub(crate) fn put_outcome(
             let line = format!(in alloc; "limit of {MOST_TURNS} turns\n")?;
             text.extend_from_slice(line.as_bytes())
         }
+        Some(Outcome::Held(Hit::Goal)) => Ok(()),
+        Some(Outcome::Ended) => text.extend_from_slice(none),
         None => text.extend_from_slice(none),
-        Some(_) => Ok(()),
     }
+}
+
+/// Appends that no step of a command led to its address, if it has one.
+pub(crate) fn put_missed(
+    alloc: Global,
+    labels: &Labels,
+    address: Option<u16>,
+    text: &mut Vec<u8>,
+) -> Result<(), AllocError>
+    ensures { OnOk result (text.new.items ≡ text.old.items ++ missed_text labels.now address) }
+{
+    let Some(address) = address else {
+        return Ok(());
+    };
+    put_address(alloc, labels, address, text)?;
+    text.extend_from_slice(b" was not reached\n")
 }
 
 /// Appends the condition of a breakpoint, if it has one.

@@ -8,7 +8,7 @@ use Rattle.std.proofs.lemmas.Bool.{ltb-true, lt-ltb, and_parts, and_from, cond-t
 use Rattle.std.proofs.lemmas.Str.{IsUtf8-from_ascii}
 use Rattle.std.proofs.lemmas.Str.Ascii.{IsAscii-cons, IsAscii-nil}
 use Rattle.std.proofs.lemmas.Bool.Decides.{nat_tests}
-use Rattle.asm_scan.specs.Numbers.{value_in}
+use Rattle.asm_line.specs.Numbers.{value_in}
 use Rattle.debugger_commands.specs.Typed.{printed_address, turns_of}
 
 all_digits : (base : ℕ) (digits : List ℕ) → list_all (λ b. is_digit b base) digits ≡ true → AllDigits base digits

@@ -1,2 +1,3 @@
 pub mod Typed
+pub mod Help
 pub mod Private

@@ -6,12 +6,12 @@ use Rattle.std.specs.List.{list_all, list_any, position, slice_split}
 use Rattle.std.specs.Option.{ok_or, option_or}
 use Rattle.std.specs.Str.{bytes_eq, str_eq_ignore_ascii_case}
 use Rattle.std.specs.Str.Parse.{digits_value, without_leading_plus}
-use Rattle.asm_scan.specs.Numbers.{value_in}
-use Rattle.asm_scan.specs.Scanned.{scanned}
-use Rattle.asm_scan.specs.Tokens.{Lexeme}
-use Rattle.asm_scan.specs.declared.fault.ScanFault.{ScanFault}
-use Rattle.asm_scan.specs.declared.token.Kind.{Kind}
-use Rattle.asm_scan.specs.declared.token.Kind.TheVariants as kind
+use Rattle.asm_line.specs.Numbers.{value_in}
+use Rattle.asm_line.specs.Scanned.{scanned}
+use Rattle.asm_line.specs.Tokens.{Lexeme}
+use Rattle.asm_line.specs.declared.fault.ScanFault.{ScanFault}
+use Rattle.asm_line.specs.declared.token.Kind.{Kind}
+use Rattle.asm_line.specs.declared.token.Kind.TheVariants as kind
 use Rattle.z80_cpu.specs.State.{down_by, up_by}
 use Rattle.z80_cpu.specs.declared.registers.Cpu.{Cpu}
 use Rattle.debugger_commands.specs.declared.command.Command.{Command}
@@ -147,6 +147,7 @@ argument_forms verb.Delete = codes " [ADDR]"
 argument_forms verb.Memory = codes " ADDR [N]"
 argument_forms verb.Disassemble = codes " ADDR [N]"
 argument_forms verb.Who = codes " ADDR"
+argument_forms verb.Help = codes " [COMMAND]"
 argument_forms other = []
 
 -- the commands in the order in which `help` lists them
@@ -159,9 +160,15 @@ every_verb =
 abbrev pub is_short_for : List ℕ → List ℕ → Bool
 is_short_for word name = str_eq_ignore_ascii_case (take (length word) name) word
 
--- the command with this name, in upper or lower case; otherwise the first one whose name begins with the word
+-- the command that has this name elsewhere, in upper or lower case
+abbrev pub foreign_verb : List ℕ → Option Verb
+foreign_verb word = if str_eq_ignore_ascii_case word (codes "?") then Some verb.Help else (if str_eq_ignore_ascii_case word (codes "exit") then Some verb.Quit else None)
+
+-- the command with this name, in upper or lower case; otherwise the first one whose name begins with the word; otherwise one that has this name elsewhere
 abbrev pub verb_named : List ℕ → Option Verb
-verb_named word = option_or (find (λ it. str_eq_ignore_ascii_case (verb_name it) word) every_verb) (find (λ it. is_short_for word (verb_name it)) every_verb)
+verb_named word =
+    option_or (option_or (find (λ it. str_eq_ignore_ascii_case (verb_name it) word) every_verb) (find (λ it. is_short_for word (verb_name it)) every_verb))
+    (foreign_verb word)
 
 -- ---- the forms of the commands
 
@@ -269,6 +276,12 @@ info [] = Ok command.Info
 info (word ∷ []) = if is_listed word then Ok command.Info else Err (usage verb.Info)
 info (word ∷ next ∷ more) = Err (usage verb.Info)
 
+-- [COMMAND]
+abbrev pub typed_help : List (List ℕ) → Reading Command
+typed_help [] = Ok (command.Help None)
+typed_help (word ∷ []) = read_as (λ it. command.Help (Some it)) (ok_or (verb_named word) (word, refusal.Command))
+typed_help (word ∷ next ∷ more) = Err (usage verb.Help)
+
 -- the command with this name and these words after it
 abbrev pub typed_as : Known → Cpu → Verb → List (List ℕ) → Reading Command
 typed_as known cpu verb.Step words = read_as command.Step (typed_turns verb.Step (Some 1) words)
@@ -291,7 +304,7 @@ typed_as known cpu verb.Output words = no_arguments verb.Output command.Output w
 typed_as known cpu verb.Who words = read_as command.Who (one_address known cpu verb.Who words)
 typed_as known cpu verb.Files words = no_arguments verb.Files command.Files words
 typed_as known cpu verb.Where words = no_arguments verb.Where command.Where words
-typed_as known cpu verb.Help words = no_arguments verb.Help command.Help words
+typed_as known cpu verb.Help words = typed_help words
 typed_as known cpu verb.Quit words = no_arguments verb.Quit command.Quit words
 
 -- ---- lines
@@ -325,5 +338,5 @@ refusal_line (word, refusal.Turns) = shown_word word ++ codes ": not a decimal n
 refusal_line (word, refusal.Number) = shown_word word ++ codes ": not a number up to 65535\n"
 refusal_line (word, refusal.NoBytes) = shown_word word ++ codes ": watch needs at least one byte\n"
 refusal_line (word, refusal.Register) = shown_word word ++ codes ": no register before =\n"
-refusal_line (word, refusal.Value) = shown_word word ++ codes ": after = a number up to 65535 or a label is needed, not a register\n"
+refusal_line (word, refusal.Value) = shown_word word ++ codes ": after = a number up to 65535 is needed, such as 5BH, 005B or 91, or a label\n"
 refusal_line (word, refusal.OneByte) = shown_word word ++ codes ": a register of one byte, so the value is at most 255\n"

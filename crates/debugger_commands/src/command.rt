@@ -1,7 +1,7 @@
 //! The commands of a session.
 
 ghost use Rattle.std.specs.Prelude.{◌≡◌, IfOk, Ok, map};
-ghost use Rattle.debugger_commands.specs.Typed.{address, address_and_number, no_arguments, breakpoint, typed_condition, conditional_breakpoint, fitting_value, info, is_listed, line_meaning, typed_number, one_address, read_as, shown_reading, some_address, some_bytes, typed_count, typed_turns, typed_as, usage};
+ghost use Rattle.debugger_commands.specs.Typed.{address, address_and_number, no_arguments, breakpoint, typed_condition, conditional_breakpoint, fitting_value, info, is_listed, line_meaning, typed_number, one_address, read_as, shown_reading, some_address, some_bytes, typed_count, typed_turns, typed_as, typed_help, usage};
 ghost use Rattle.debugger_commands.specs.declared.command.Command.TheVariants as command;
 ghost use Rattle.debugger_commands.specs.declared.verb.Verb.TheVariants as verb;
 
@@ -57,8 +57,8 @@ pub enum Command {
     Files,
     /// Show PC with its label, and its line of the listing.
     Where,
-    /// Show the commands.
-    Help,
+    /// Show the commands, or the lines of one.
+    Help(Option<Verb>),
     /// End the session.
     Quit,
 }
@@ -471,6 +471,20 @@ fn who<'a>(
     }
 }
 
+/// `help [COMMAND]`
+fn help<'a>(words: &[&'a [u8]]) -> Reading<'a, Command>
+    ensures { shown_reading result ≡ typed_help (map (λ w. w.now) words.now) }
+{
+    match words {
+        [] => Ok(Command::Help(None)),
+        [word] => match verb_named(word) {
+            Some(verb) => Ok(Command::Help(Some(verb))),
+            None => Err((*word, Refusal::Command)),
+        },
+        _ => Err(usage(Verb::Help)),
+    }
+}
+
 /// The command with this name and these words after it.
 fn typed_as<'a>(
     alloc: Global,
@@ -502,7 +516,7 @@ fn typed_as<'a>(
         Verb::Who => who(alloc, labels, cpu, words),
         Verb::Files => Ok(alone(verb, Command::Files, words)),
         Verb::Where => Ok(alone(verb, Command::Where, words)),
-        Verb::Help => Ok(alone(verb, Command::Help, words)),
+        Verb::Help => Ok(help(words)),
         Verb::Quit => Ok(alone(verb, Command::Quit, words)),
     }
 }

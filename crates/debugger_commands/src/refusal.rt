@@ -77,7 +77,7 @@ pub fn refusal_line(alloc: Global, refused: Refused<'_>) -> Result<Vec<u8>, Allo
         Refusal::Value => named(
             alloc,
             word,
-            b": after = a number up to 65535 or a label is needed, not a register\n",
+            b": after = a number up to 65535 is needed, such as 5BH, 005B or 91, or a label\n",
         ),
         Refusal::OneByte => named(
             alloc,

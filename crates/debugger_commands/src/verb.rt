@@ -2,7 +2,7 @@
 
 ghost use Rattle.std.specs.Prelude.{◌≡◌, find};
 ghost use Rattle.std.specs.Str.{str_eq_ignore_ascii_case};
-ghost use Rattle.debugger_commands.specs.Typed.{is_short_for, verb_name, verb_named};
+ghost use Rattle.debugger_commands.specs.Typed.{foreign_verb, is_short_for, verb_name, verb_named};
 
 use state_text::is_same_name;
 
@@ -108,6 +108,7 @@ impl Verb {
             Verb::Memory => b" ADDR [N]",
             Verb::Disassemble => b" ADDR [N]",
             Verb::Who => b" ADDR",
+            Verb::Help => b" [COMMAND]",
             _ => b"",
         }
     }
@@ -145,9 +146,24 @@ fn first_begun(verbs: &[Verb], word: &[u8]) -> Option<Verb>
     None
 }
 
-/// The command with this name, or the first whose name begins so.
+/// The command that has this name in other debuggers and shells.
+fn foreign_verb(word: &[u8]) -> Option<Verb>
+    ensures { result ≡ foreign_verb word.now }
+{
+    if is_same_name(word, b"?") {
+        Some(Verb::Help)
+    } else if is_same_name(word, b"exit") {
+        Some(Verb::Quit)
+    } else {
+        None
+    }
+}
+
+/// The command with this name, or the first whose name begins so, or the one that has this name elsewhere.
 pub(crate) fn verb_named(word: &[u8]) -> Option<Verb>
     ensures { result ≡ verb_named word.now }
 {
-    first_named(&VERBS, word).or(first_begun(&VERBS, word))
+    first_named(&VERBS, word)
+        .or(first_begun(&VERBS, word))
+        .or(foreign_verb(word))
 }

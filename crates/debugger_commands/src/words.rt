@@ -4,11 +4,11 @@ ghost use Rattle.std.specs.Prelude.{◌≡◌, ◌<◌, ◌≤◌, ◌==◌, ◌
 ghost use Rattle.std.specs.Char.{is_ascii_whitespace};
 ghost use Rattle.std.specs.List.{position, position_or_len, slice_split};
 ghost use Rattle.std.specs.Option.{IfSome};
-ghost use Rattle.asm_scan.specs.Tokens.{lexemes};
+ghost use Rattle.asm_line.specs.Tokens.{lexemes};
 ghost use Rattle.debugger_commands.specs.Typed.{address_and_offset, address_in_register, address_near, address_or_value, cut, is_typed_word, line_words, named_address, number_typed, one_number, printed_address, turns_of};
 ghost use Rattle.debugger_commands.specs.Private.Parts.{parts_left};
 
-use asm_scan::{Kind, ScanFault, Token, tokens};
+use asm_line::{Kind, ScanFault, Token, tokens};
 use state_text::{Labels, is_same_name, register_limit, register_named};
 use std::alloc::{AllocError, Global};
 use z80_cpu::Cpu;

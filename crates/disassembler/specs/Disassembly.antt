@@ -18,19 +18,25 @@ pub record Rebuilds (text program : List ℕ) : Type 0 where
   pub builds : IsBuilt false (source ∷ []) (Ok built)
   pub same : built.com.items ≡ program
 
--- The program is not too long, each entry is an address of a byte of it, and each line of the labels file is one of a label.
-pub record IsAccepted (program : List ℕ) (labels : Option (List ℕ)) (entries : List (List ℕ)) : Type 0 where
+-- The program is not too long, each entry and each beginning of data is an address of a byte of it, and each line of the labels file is one of
+-- a label.
+pub record IsAccepted (program : List ℕ) (labels : Option (List ℕ)) (entries data_starts : List (List ℕ)) : Type 0 where
   pub fits : length program ≤ LONGEST_PROGRAM
   pub each_entry : first_bad_entry (length program) entries ≡ None
+  pub each_start : first_bad_entry (length program) data_starts ≡ None
   pub each_label : first_bad_label labels ≡ None
 
--- What is answered for a program, a labels file and words that are entries. If memory ran out, nothing is claimed.
-abbrev pub IsDisassembly : List ℕ → Option (List ℕ) → List (List ℕ) → Result (Vec ℕ Global) DisassemblyFault → Type 0
-IsDisassembly program labels entries (Ok text) = IsAccepted program labels entries × Rebuilds text.items program
-IsDisassembly program labels entries (Err fault.TooLong) = LONGEST_PROGRAM < length program
-IsDisassembly program labels entries (Err (fault.BadEntry word)) =
+-- What is answered for a program, a labels file, words that are entries and words that are beginnings of data. If memory ran out, nothing is
+-- claimed.
+abbrev pub IsDisassembly : List ℕ → Option (List ℕ) → List (List ℕ) → List (List ℕ) → Result (Vec ℕ Global) DisassemblyFault → Type 0
+IsDisassembly program labels entries data_starts (Ok text) = IsAccepted program labels entries data_starts × Rebuilds text.items program
+IsDisassembly program labels entries data_starts (Err fault.TooLong) = LONGEST_PROGRAM < length program
+IsDisassembly program labels entries data_starts (Err (fault.BadEntry word)) =
     (length program ≤ LONGEST_PROGRAM) × (first_bad_entry (length program) entries ≡ Some word.now)
-IsDisassembly program labels entries (Err (fault.BadLabels line)) =
-    (length program ≤ LONGEST_PROGRAM) × (first_bad_entry (length program) entries ≡ None) × (first_bad_label labels ≡ Some line)
-IsDisassembly program labels entries (Err fault.NotRebuilt) = IsAccepted program labels entries
-IsDisassembly program labels entries (Err fault.NoMemory) = Unit {0}
+IsDisassembly program labels entries data_starts (Err (fault.BadData word)) =
+    (length program ≤ LONGEST_PROGRAM) × (first_bad_entry (length program) entries ≡ None) × (first_bad_entry (length program) data_starts ≡ Some word.now)
+IsDisassembly program labels entries data_starts (Err (fault.BadLabels line)) =
+    (length program ≤ LONGEST_PROGRAM) × (first_bad_entry (length program) entries ≡ None) × (first_bad_entry (length program) data_starts ≡ None)
+    × (first_bad_label labels ≡ Some line)
+IsDisassembly program labels entries data_starts (Err fault.NotRebuilt) = IsAccepted program labels entries data_starts
+IsDisassembly program labels entries data_starts (Err fault.NoMemory) = Unit {0}

@@ -1,11 +1,11 @@
--- The entries: words that are addresses of bytes of the program.
+-- The entries, and the beginnings of data: words that are addresses of bytes of the program.
 use Rattle.std.specs.Prelude.{ℕ, ◌+◌, ◌&&◌, not, Bool, false, List, [], ◌∷◌, Option, Some, None, Result, Ok, find, if◌then◌else◌, nat_le, nat_lt}
 use Rattle.std.specs.Option.{option_map_or}
 use Rattle.std.specs.Str.{bytes_eq}
-use Rattle.asm_scan.specs.Scanned.{scanned}
-use Rattle.asm_scan.specs.Tokens.{Lexeme}
-use Rattle.asm_scan.specs.declared.fault.ScanFault.{ScanFault}
-use Rattle.asm_scan.specs.declared.token.Kind.{Kind}
+use Rattle.asm_line.specs.Scanned.{scanned}
+use Rattle.asm_line.specs.Tokens.{Lexeme}
+use Rattle.asm_line.specs.declared.fault.ScanFault.{ScanFault}
+use Rattle.asm_line.specs.declared.token.Kind.{Kind}
 use Rattle.common.specs.declared.limits.TheConstants.{FIRST_PLACE}
 
 abbrev pub number_of_kind : Kind → Option ℕ

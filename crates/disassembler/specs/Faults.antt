@@ -6,6 +6,7 @@ use Rattle.disassembler.specs.declared.fault.DisassemblyFault.TheVariants as fau
 abbrev pub disassembly_fault_text : DisassemblyFault → List ℕ
 disassembly_fault_text fault.TooLong = codes "TooLong"
 disassembly_fault_text (fault.BadEntry word) = codes "BadEntry(" ++ word.now ++ codes ")"
+disassembly_fault_text (fault.BadData word) = codes "BadData(" ++ word.now ++ codes ")"
 disassembly_fault_text (fault.BadLabels line) = codes "BadLabels(" ++ decimal line ++ codes ")"
 disassembly_fault_text fault.NotRebuilt = codes "NotRebuilt"
 disassembly_fault_text fault.NoMemory = codes "NoMemory"

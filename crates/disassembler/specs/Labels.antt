@@ -2,7 +2,7 @@
 use Rattle.std.specs.Prelude.{ℕ, ◌+◌, ◌*◌, ◌%◌, ◌==◌, ◌&&◌, not, Bool, false, nat_lt, List, [], ◌∷◌, Option, Some, None, if◌then◌else◌, drop}
 use Rattle.std.specs.List.{list_all, list_any, after_last}
 use Rattle.std.specs.Char.{is_ascii_lowercase, is_digit}
-use Rattle.asm_scan.specs.Classes.{begins_name, continues_name}
+use Rattle.asm_line.specs.Classes.{begins_name, continues_name}
 use Rattle.asm_macro.specs.Texts.{source_lines}
 
 abbrev pub is_space : ℕ → Bool

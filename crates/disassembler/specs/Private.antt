@@ -13,6 +13,13 @@ AreEntries count entries (Err (fault.BadEntry word)) = first_bad_entry count ent
 AreEntries count entries (Err fault.NoMemory) = Unit {0}
 AreEntries count entries (Err why) = ⊥
 
+-- No beginning of data is bad, or this one is the first, or memory ran out.
+abbrev pub AreDataStarts : ℕ → List (List ℕ) → Result (Vec ℕ Global) DisassemblyFault → Type 0
+AreDataStarts count starts (Ok offsets) = first_bad_entry count starts ≡ None
+AreDataStarts count starts (Err (fault.BadData word)) = first_bad_entry count starts ≡ Some word.now
+AreDataStarts count starts (Err fault.NoMemory) = Unit {0}
+AreDataStarts count starts (Err why) = ⊥
+
 -- The text builds to the program, or none that was tried does, or memory ran out.
 abbrev pub IsRebuilt : List ℕ → Result (Vec ℕ Global) DisassemblyFault → Type 0
 IsRebuilt program (Ok text) = Rebuilds text.items program

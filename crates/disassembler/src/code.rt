@@ -11,6 +11,8 @@ use z80_table::decode;
 pub(crate) enum Kind {
     /// It belongs to no instruction that was found.
     Data,
+    /// Data begins with it, as the caller says. No instruction may have it.
+    DataStart,
     /// An instruction begins with it.
     First,
     /// It belongs to an instruction that begins before it.
@@ -76,14 +78,31 @@ pub(crate) fn target_of(found: Found, count: usize) -> Option<usize> {
     offset_of(address).filter(|offset| *offset <= count)
 }
 
-/// Finds the code that the program can reach from each of these offsets, in their order, and then what it can reach from its first byte.
+/// Answers what is known of the bytes before code is found: only where data begins.
+fn first_kinds(
+    alloc: Global,
+    count: usize,
+    data_starts: &[usize],
+) -> Result<Vec<Kind>, AllocError> {
+    let mut kinds = vec![in alloc; Kind::Data; count]?;
+    for start in data_starts {
+        if let Some(kind) = kinds.get_mut(*start) {
+            *kind = Kind::DataStart;
+        }
+    }
+    Ok(kinds)
+}
+
+/// Finds the code that the program can reach from each of the entries, in their order, and then what it can reach from its first byte. It
+/// does not reach into data that begins at one of `data_starts`.
 pub(crate) fn find_code(
     alloc: Global,
     program: &[u8],
     entries: &[usize],
+    data_starts: &[usize],
 ) -> Result<Vec<Kind>, AllocError> {
     let count = program.len();
-    let mut kinds = vec![in alloc; Kind::Data; count]?;
+    let mut kinds = first_kinds(alloc, count, data_starts)?;
     let mut waiting = Vec::from_slice(alloc, entries)?;
     waiting.push(0)?;
     // The last one is taken first: the entries in their order, since they are known, and then 0100H, since what comes after a call is a guess.

@@ -5,7 +5,7 @@ ghost use Rattle.std.specs.Option.{option_map};
 ghost use Rattle.disassembler.specs.Disassembly.{IsDisassembly, Rebuilds};
 ghost use Rattle.disassembler.specs.Private.{IsRebuilt};
 
-use crate::entries::entry_offsets;
+use crate::entries::{data_offsets, entry_offsets};
 use crate::fault::DisassemblyFault;
 use crate::items::Layout;
 use crate::labels::{first_bad_label, first_labels};
@@ -62,9 +62,10 @@ fn full_text(
     program: &[u8],
     labels: Option<&[u8]>,
     entries: &[usize],
+    data_starts: &[usize],
 ) -> Result<Vec<u8>, AllocError> {
     let labels = first_labels(alloc, labels, MOST_LABELS)?;
-    let layout = Layout::new(alloc, program, &labels, entries)?;
+    let layout = Layout::new(alloc, program, &labels, entries, data_starts)?;
     let mut lines = Lines::new(alloc);
     put_head(alloc, &mut lines, program.len())?;
     put_items(alloc, &layout, &mut lines)?;
@@ -91,10 +92,11 @@ fn rebuilt<'a>(
     program: &[u8],
     labels: Option<&[u8]>,
     entries: &[usize],
+    data_starts: &[usize],
 ) -> Result<Vec<u8>, DisassemblyFault<'a>>
     ensures { IsRebuilt program.now result }
 {
-    let text = full_text(alloc, program, labels, entries)?;
+    let text = full_text(alloc, program, labels, entries, data_starts)?;
     if builds_to(alloc, &text, program)? {
         return Ok(text);
     }
@@ -107,29 +109,32 @@ fn rebuilt<'a>(
 
 /// Answers a source text that builds to the bytes of a program.
 ///
-/// Code is what can be reached from the first byte and from the entries; everything else is data. `labels` is a labels file, whose names the
-/// text uses.
+/// Code is what can be reached from the first byte and from the entries, but not the bytes at `data_starts`; everything else is data.
+/// `labels` is a labels file, whose names the text uses.
 ///
 /// # Errors
 ///
 /// [`DisassemblyFault::TooLong`] if the program has more than 64,512 bytes; otherwise [`DisassemblyFault::BadEntry`] with the first entry
-/// that is not an address of a byte of the program; otherwise [`DisassemblyFault::BadLabels`] with the first line of the labels file that is
-/// not one of a label; otherwise [`DisassemblyFault::NotRebuilt`] if neither the text of instructions nor that of bytes alone builds to the
-/// program, which no known program does; [`DisassemblyFault::NoMemory`] if memory ran out.
+/// that is not an address of a byte of the program; otherwise [`DisassemblyFault::BadData`] with the first beginning of data that is not;
+/// otherwise [`DisassemblyFault::BadLabels`] with the first line of the labels file that is not one of a label; otherwise
+/// [`DisassemblyFault::NotRebuilt`] if neither the text of instructions nor that of bytes alone builds to the program, which no known program
+/// does; [`DisassemblyFault::NoMemory`] if memory ran out.
 pub fn disassemble<'a>(
     alloc: Global,
     program: &[u8],
     labels: Option<&[u8]>,
     entries: &[&'a str],
+    data_starts: &[&'a str],
 ) -> Result<Vec<u8>, DisassemblyFault<'a>>
-    ensures { IsDisassembly program.now (option_map (λ text. text.now) labels.entry) (map (λ word. word.now) entries.now) result }
+    ensures { IsDisassembly program.now (option_map (λ text. text.now) labels.entry) (map (λ word. word.now) entries.now) (map (λ word. word.now) data_starts.now) result }
 {
     if program.len() > LONGEST_PROGRAM as usize {
         return Err(DisassemblyFault::TooLong);
     }
-    let offsets = entry_offsets(alloc, program.len(), entries)?;
+    let entries = entry_offsets(alloc, program.len(), entries)?;
+    let data_starts = data_offsets(alloc, program.len(), data_starts)?;
     if let Some(line) = first_bad_label(labels) {
         return Err(DisassemblyFault::BadLabels(line));
     }
-    rebuilt(alloc, program, labels, &offsets)
+    rebuilt(alloc, program, labels, &entries, &data_starts)
 }

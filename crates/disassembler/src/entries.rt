@@ -1,13 +1,13 @@
-//! Reads the entries: words that are addresses of bytes of the program.
+//! Reads the entries and the beginnings of data: words that are addresses of bytes of the program.
 
 ghost use Rattle.std.specs.Prelude.{◌≡◌, IfOk, Ok, is_some, map};
-ghost use Rattle.asm_scan.specs.Tokens.{lexemes};
+ghost use Rattle.asm_line.specs.Tokens.{lexemes};
 ghost use Rattle.disassembler.specs.Entries.{has_byte_at, is_entry, number_word, only_number};
-ghost use Rattle.disassembler.specs.Private.{AreEntries};
+ghost use Rattle.disassembler.specs.Private.{AreDataStarts, AreEntries};
 
 use crate::fault::DisassemblyFault;
 use crate::place::offset_of;
-use asm_scan::{Kind, ScanFault, Token, tokens};
+use asm_line::{Kind, ScanFault, Token, tokens};
 use std::alloc::{AllocError, Global};
 
 /// Answers the number that the tokens of a word are, if the whole word is one number.
@@ -68,4 +68,18 @@ pub(crate) fn entry_offsets<'a>(
         }
     }
     Ok(offsets)
+}
+
+/// Answers the offsets at which data begins, or the first word that is no address of a byte of the program.
+pub(crate) fn data_offsets<'a>(
+    alloc: Global,
+    count: usize,
+    starts: &[&'a str],
+) -> Result<Vec<usize>, DisassemblyFault<'a>>
+    ensures { AreDataStarts count (map (λ word. word.now) starts.now) result }
+{
+    match entry_offsets(alloc, count, starts) {
+        Err(DisassemblyFault::BadEntry(word)) => Err(DisassemblyFault::BadData(word)),
+        offsets => offsets,
+    }
 }

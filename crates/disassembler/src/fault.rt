@@ -16,6 +16,9 @@ pub enum DisassemblyFault<'a> {
     /// The first of the entries that is no number of the language, as 0150H, or not the address of a byte of the program.
     #[error("{0} is not an address of the program")]
     BadEntry(&'a str),
+    /// The first of the beginnings of data that is no such address.
+    #[error("{0} is not an address of the program")]
+    BadData(&'a str),
     /// The first line of the labels file, counted from 1, that is not `AAAA PATH NAME`: four hexadecimal digits in upper case, a path, and a
     /// name.
     #[error("line {0} of the labels is bad")]
@@ -50,6 +53,7 @@ pub fn fault_text(alloc: Global, fault: DisassemblyFault<'_>) -> Result<String, 
     match fault {
         DisassemblyFault::TooLong => String::from_str(alloc, "TooLong"),
         DisassemblyFault::BadEntry(word) => format!(in alloc; "BadEntry({word})"),
+        DisassemblyFault::BadData(word) => format!(in alloc; "BadData({word})"),
         DisassemblyFault::BadLabels(line) => format!(in alloc; "BadLabels({line})"),
         DisassemblyFault::NotRebuilt => String::from_str(alloc, "NotRebuilt"),
         DisassemblyFault::NoMemory => String::from_str(alloc, "NoMemory"),

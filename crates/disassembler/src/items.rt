@@ -41,14 +41,15 @@ pub(crate) struct Layout<'a> {
 }
 
 impl<'a> Layout<'a> {
-    /// Lays out a program, given the labels of its labels file and the offsets of its entries.
+    /// Lays out a program, given the labels of its labels file, the offsets of its entries, and those at which data begins.
     pub(crate) fn new(
         alloc: Global,
         program: &'a [u8],
         labels: &[Label<'_>],
         entries: &[usize],
+        data_starts: &[usize],
     ) -> Result<Layout<'a>, AllocError> {
-        let kinds = find_code(alloc, program, entries)?;
+        let kinds = find_code(alloc, program, entries, data_starts)?;
         let names = Names::new(alloc, program, &kinds, labels, entries)?;
         let mut layout = Layout {
             program,

@@ -2,14 +2,14 @@
 
 ghost use Rattle.std.specs.Prelude.{◌≡◌, is_some, map};
 ghost use Rattle.std.specs.List.{after_last, list_all, list_any};
-ghost use Rattle.asm_scan.specs.Classes.{continues_name};
+ghost use Rattle.asm_line.specs.Classes.{continues_name};
 ghost use Rattle.std.specs.Option.{option_map};
 ghost use Rattle.disassembler.specs.Labels.{digit_value, first_bad_label, first_bad_line, is_label_line, is_path_and_name, is_space, is_upper_digit, is_whole_name, label_address, label_name};
 ghost use Rattle.disassembler.specs.Reading.{AreLabels};
 
 use crate::fault::DisassemblyFault;
+use asm_line::{begins_name, continues_name};
 use asm_macro::source_part;
-use asm_scan::{begins_name, continues_name};
 use bstr::ByteSlice;
 use std::alloc::{AllocError, Global};
 

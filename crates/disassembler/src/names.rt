@@ -11,7 +11,7 @@ use std::collections::btree_map::Entry;
 /// The longest name that the text uses: a line with it has at most 255 bytes.
 const LONGEST_NAME: usize = 200;
 
-/// A name of the labels file, and the offset of its label.
+/// The name of a place that the labels file names, and the offset of its label.
 #[derive(Drop)]
 pub(crate) struct Name {
     offset: usize,
@@ -23,7 +23,7 @@ pub(crate) struct Name {
 pub(crate) struct Names {
     /// For each offset, and for the end, whether it has a label.
     labelled: Vec<bool>,
-    /// The names of the labels file, by their offsets. Other labels are named by their addresses.
+    /// The names of the places that the labels file names, by their offsets. Other labels are named by their addresses.
     names: Vec<Name>,
 }
 
@@ -92,6 +92,45 @@ fn names_of(alloc: Global, kinds: &[Kind], labels: &[Label<'_>]) -> Result<Vec<N
     Ok(names)
 }
 
+/// The name that the text gives an address for which it has no other one.
+pub(crate) fn made_name(alloc: Global, address: u16) -> Result<Vec<u8>, AllocError> {
+    let name = format!(in alloc; "L{address:04X}")?;
+    Vec::from_slice(alloc, name.as_bytes())
+}
+
+/// Answers for each offset, and for the end, whether it has a name.
+fn named_offsets(alloc: Global, kinds: &[Kind], names: &[Name]) -> Result<Vec<bool>, AllocError> {
+    let mut named = vec![in alloc; false; kinds.len().saturating_add(1)]?;
+    for name in names {
+        set(&mut named, name.offset);
+    }
+    Ok(named)
+}
+
+/// Adds a name made of its address for each place that has a name in the labels file, but none that the text can use. Without a label, a
+/// number would stand for the place, and whoever makes a text before it longer would not see that the number has to change.
+fn with_all_places(
+    alloc: Global,
+    kinds: &[Kind],
+    labels: &[Label<'_>],
+    given: Vec<Name>,
+) -> Result<Vec<Name>, AllocError> {
+    let mut named = named_offsets(alloc, kinds, &given)?;
+    let mut names = given;
+    for label in labels {
+        let Some(offset) = label_offset(kinds, label.address) else {
+            continue;
+        };
+        if named.get(offset) == Some(&false) {
+            set(&mut named, offset);
+            let text = made_name(alloc, label.address)?;
+            names.push(Name { offset, text })?;
+        }
+    }
+    names.sort_by_key(|name| name.offset)?;
+    Ok(names)
+}
+
 /// Notes that an offset has a label.
 fn set(labelled: &mut [bool], offset: usize) {
     if let Some(own) = labelled.get_mut(offset) {
@@ -132,7 +171,8 @@ impl Names {
                 set(&mut labelled, *entry);
             }
         }
-        let names = names_of(alloc, kinds, labels)?;
+        let given = names_of(alloc, kinds, labels)?;
+        let names = with_all_places(alloc, kinds, labels, given)?;
         for name in &names {
             set(&mut labelled, name.offset);
         }
@@ -149,13 +189,13 @@ impl Names {
         matches!(self.labelled.get(offset), Some(true))
     }
 
-    /// Answers the first name that the labels file has for an offset.
+    /// Answers the first name of an offset that the labels file names.
     pub(crate) fn first_at(&self, offset: usize) -> Option<&Name> {
         let from = self.names.partition_point(|name| name.offset < offset);
         self.names.get(from).filter(|name| name.offset == offset)
     }
 
-    /// Answers the names that the labels file has for an offset.
+    /// Answers the names of an offset that the labels file names.
     pub(crate) fn at(&self, offset: usize) -> &[Name] {
         let from = self.names.partition_point(|name| name.offset < offset);
         let rest = self.names.get(from..).unwrap_or(&[]);

@@ -4,7 +4,7 @@ use crate::code::Found;
 use crate::data::string_len;
 use crate::items::{Item, Layout};
 use crate::lines::Lines;
-use crate::names::Names;
+use crate::names::{Names, made_name};
 use crate::place::{address_of, offset_of};
 use crate::reference::Reference;
 use bstr::ByteSlice;
@@ -12,13 +12,7 @@ use state_text::{put_instr, put_word_number};
 use std::alloc::{AllocError, Global};
 use z80_table::encode;
 
-/// Answers the name of a label that has none from the labels file.
-fn made_name(alloc: Global, address: u16) -> Result<Vec<u8>, AllocError> {
-    let name = format!(in alloc; "L{address:04X}")?;
-    Vec::from_slice(alloc, name.as_bytes())
-}
-
-/// Answers the name of the label at an address, if there is one; only one of the labels file if `only_given` is true.
+/// Answers the name of the label at an address, if there is one; only of a place that the labels file names if `only_given` is true.
 fn name_at(
     alloc: Global,
     names: &Names,

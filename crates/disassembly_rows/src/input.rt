@@ -3,11 +3,12 @@
 use row_text::Row;
 use std::alloc::Global;
 
-/// A program, its entries, and a labels file if there is one.
+/// A program, its entries, where data begins, and a labels file if there is one.
 #[derive(Drop)]
 pub(crate) struct Input<'a> {
     pub(crate) program: Vec<u8>,
     pub(crate) entries: Vec<&'a str>,
+    pub(crate) data_starts: Vec<&'a str>,
     pub(crate) labels: Option<Vec<u8>>,
 }
 
@@ -33,16 +34,29 @@ fn program_of(alloc: Global, column: &str) -> Option<Vec<u8>> {
     Some(program)
 }
 
-/// Answers entries with commas between them; none for `-` and for a column that is not there.
+/// Answers the words of a column with commas between them that are entries; none for `-` and for a column that is not there.
 fn entries_of(alloc: Global, column: &str) -> Option<Vec<&str>> {
     let mut entries = Vec::new(alloc);
     if matches!(column, "" | "-") {
         return Some(entries);
     }
     for word in column.split(',') {
-        entries.push(word).ok()?;
+        if !word.starts_with('=') {
+            entries.push(word).ok()?;
+        }
     }
     Some(entries)
+}
+
+/// Answers the words of the same column that come after `=`.
+fn data_starts_of(alloc: Global, column: &str) -> Option<Vec<&str>> {
+    let mut starts = Vec::new(alloc);
+    for word in column.split(',') {
+        if let Some(start) = word.strip_prefix('=') {
+            starts.push(start).ok()?;
+        }
+    }
+    Some(starts)
 }
 
 /// Answers the labels file of the columns that are left; none if there are none.
@@ -58,12 +72,15 @@ fn labels_of(row: &mut Row) -> Option<Vec<u8>> {
 pub(crate) fn input_of<'a>(row: &mut Row<'a>) -> Option<Input<'a>> {
     let alloc = row.alloc();
     let program = program_of(alloc, row.word());
-    let entries = entries_of(alloc, row.word());
+    let column = row.word();
+    let entries = entries_of(alloc, column);
+    let data_starts = data_starts_of(alloc, column);
     let labels = labels_of(row);
-    match (program, entries) {
-        (Some(program), Some(entries)) => Some(Input {
+    match (program, entries, data_starts) {
+        (Some(program), Some(entries), Some(data_starts)) => Some(Input {
             program,
             entries,
+            data_starts,
             labels,
         }),
         _ => {

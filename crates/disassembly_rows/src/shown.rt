@@ -14,7 +14,13 @@ fn answer_of<'a>(row: &Row, input: &Input<'a>) -> Result<Vec<u8>, DisassemblyFau
         Some(text) => Some(text.as_slice()),
         None => None,
     };
-    disassemble(row.alloc(), &input.program, labels, &input.entries)
+    disassemble(
+        row.alloc(),
+        &input.program,
+        labels,
+        &input.entries,
+        &input.data_starts,
+    )
 }
 
 /// Prints the name of a fault.

@@ -1,9 +1,8 @@
 //! Rows of images: their sizes, sectors and records, and the entries that rows write into them.
 
 use crate::shown::{kind_of, padded};
-use cpm_directory::DiskFault;
 use cpm_image::{
-    DeviceFault, DiskKind, ImageFault, LogicalRecord, MemoryImage, Sectors, logical_of,
+    DeviceFault, DiskFault, DiskKind, ImageFault, LogicalRecord, MemoryImage, Sectors, logical_of,
 };
 use row_text::Row;
 use std::alloc::{AllocError, Global};

@@ -8,11 +8,11 @@ use crate::shown::{
     attribute_of, file_name_of, kind_of, name_of, padded, pattern_of, show_counts, show_faults,
     show_number, switch_of,
 };
-use cpm_directory::{
+use cpm_disk::DiskKind;
+use cpm_image::{
     Entry, faults, file_is_read_only, file_is_system, find, free_block, free_entry, is_file, judge,
     list as list_files, position_of, size, space_of, usage_of,
 };
-use cpm_disk::DiskKind;
 use row_text::Row;
 use std::alloc::Global;
 

@@ -2,9 +2,7 @@
 
 use crate::case::Case;
 use crate::source::SourceLines;
-use asm_line::{BlockWord, Form, Head, form_of, is_name};
-use asm_replace::arguments;
-use asm_scan::{Kind, Mark, Token};
+use asm_line::{BlockWord, Form, Head, Kind, Mark, Token, arguments, form_of, is_name};
 use message_texts::{joined, name_in, shown, token_named, tokens_of};
 use std::alloc::{AllocError, Global};
 

@@ -1,8 +1,7 @@
 //! An error, and the line that it is in.
 
 use crate::source::SourceLines;
-use asm_line::{Form, Head};
-use asm_scan::Token;
+use asm_line::{Form, Head, Token};
 use bstr::ByteSlice;
 use message_texts::{Draft, Spot};
 use source_errors::{Finding, Known};

@@ -1,6 +1,6 @@
 //! Tokens that helps put into a line.
 
-use asm_scan::{Kind, Mark, Token};
+use asm_line::{Kind, Mark, Token};
 
 /// The token `+`.
 pub const PLUS: Token<'static> = Token {

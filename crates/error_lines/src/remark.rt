@@ -1,7 +1,7 @@
 //! Words that may be a remark.
 
 use crate::case::Case;
-use asm_scan::{Kind, Mark, Token};
+use asm_line::{Kind, Mark, Token};
 use common::is_reserved;
 use std::alloc::AllocError;
 

@@ -2,9 +2,8 @@
 
 use crate::case::Case;
 use crate::worth::{Worth, distance_of, judge, worth_of};
-use asm_line::is_name;
+use asm_line::{Token, is_name};
 use asm_parse::Tree;
-use asm_scan::Token;
 use asm_spell::{Body, Line, StmtFault, Value, statement};
 use common::is_reserved;
 use message_texts::{joined, shown, tokens_of};

@@ -2,8 +2,8 @@
 
 use crate::case::Case;
 use asm_expr::{Names, Offset, Settled, constant, is_defined, offset_from_here, parse, settle};
+use asm_line::Token;
 use asm_parse::{ExprFault, Tree};
-use asm_scan::Token;
 use std::alloc::AllocError;
 
 /// What an expression is worth.

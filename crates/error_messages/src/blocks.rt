@@ -1,7 +1,6 @@
 //! Blocks, and macros.
 
-use asm_line::{BlockWord, Head, form_of, is_name, is_word};
-use asm_scan::{Kind, Mark};
+use asm_line::{BlockWord, Head, Kind, Mark, form_of, is_name, is_word};
 use common::is_reserved;
 use error_lines::{
     Case, Divided, Worth, closers_after, is_in_repetition, judge, open_condition, other_opener,

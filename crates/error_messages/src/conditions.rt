@@ -1,7 +1,6 @@
 //! Names that have no value yet where IF and REPT are processed.
 
-use asm_line::{Head, form_of, is_name};
-use asm_scan::{Kind, Mark, Token};
+use asm_line::{Head, Kind, Mark, Token, form_of, is_name};
 use bstr::ByteSlice;
 use common::{NameKey, is_reserved};
 use error_lines::{Case, Wanted, Why, first_line};

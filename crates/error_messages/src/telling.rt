@@ -1,17 +1,16 @@
 //! Says what an error means.
 
 ghost use Rattle.std.specs.Prelude.{◌≡◌, ◌<◌, ℕ, List, All, Ok, IfOk, length};
-ghost use Rattle.asm_scan.specs.Tokens.{Lexeme, lexemes};
-ghost use Rattle.asm_scan.specs.Scanned.{scanned};
+ghost use Rattle.asm_line.specs.Tokens.{Lexeme, lexemes};
+ghost use Rattle.asm_line.specs.Scanned.{scanned};
 ghost use Rattle.message_texts.specs.Places.{CoversTokens, IsInLine};
 ghost use Rattle.message_texts.specs.Texts.{HasLines, IsNote, IsOneLine};
 
 use crate::blocks;
-use asm_line::form_of;
+use asm_line::{ScanFault, Token, form_of, tokens};
 use asm_macro::MacroFault;
 use asm_module::{StmtFault, Why};
 use asm_parse::ExprFault;
-use asm_scan::{ScanFault, Token, tokens};
 use error_lines::{Case, SourceLines};
 use message_texts::{Draft, Message, Note, place_of, shown};
 use source_errors::{Finding, Known};

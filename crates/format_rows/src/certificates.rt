@@ -2,8 +2,9 @@
 
 use crate::parts::Parts;
 use crate::texts::{lines, show_difference};
-use cert_check::{CheckFault, check};
-use certificate::{Cert, Shape, TextFault, print_cert, print_sizes, read_cert, read_sizes};
+use cert_check::{
+    Cert, CheckFault, Shape, TextFault, check, print_cert, print_sizes, read_cert, read_sizes,
+};
 use row_text::Row;
 
 fn show_shape(row: &mut Row, shape: &Shape) {

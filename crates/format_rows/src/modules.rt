@@ -1,9 +1,9 @@
 //! Prints a module in words.
 
 use crate::parts::Parts;
-use asm_value::{Atom, Item, Room, items};
+use asm_parse::{Atom, Item, Room, items};
 use row_text::Row;
-use zmo_module::{Hole, Label, Module, Statement};
+use zmo_object::{Hole, Label, Module, Statement};
 
 /// Prints a number, the number of a statement or an external, or an operator.
 fn show_item(part: &mut Row, item: &Item<Atom>) {

@@ -1,14 +1,13 @@
 //! Reads and writes object files of any size, as often as a row says: for measuring, and for refusing each allocation
 //! in turn.
 
-ghost use Rattle.zmo_module.specs.Modules.{module_of};
-ghost use Rattle.zmo_module.specs.Rules.{IsModule};
+ghost use Rattle.zmo_object.specs.Modules.{module_of};
+ghost use Rattle.zmo_object.specs.Rules.{IsModule};
 
 use crate::spelling::{Kind, Size, object_of};
 use row_text::Row;
 use std::alloc::{AllocError, Global};
-use zmo_module::Module;
-use zmo_object::{ObjectFault, read, write};
+use zmo_object::{Module, ObjectFault, read, write};
 
 /// What a row asks for.
 #[derive(Drop)]

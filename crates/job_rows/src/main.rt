@@ -7,10 +7,10 @@
 mod job;
 mod room;
 
+use host::{Bytes, MemorySink, WatchedSink};
 use job::{Job, job_of};
 use row_text::Row;
 use std::io::Write;
-use streams::{Bytes, MemorySink, WatchedSink};
 use z80dev_jobs::{Ended, FailingFiles, Host, MemoryFiles, command};
 
 /// Prints what went to a stream, or whether the text that the row asks for is in it.

@@ -1,8 +1,7 @@
 //! Rows about replacing names, and about the arguments of a call.
 
 use crate::scanning::{show_text, tokens_of};
-use asm_replace::{Names, Replacements, arguments, replace};
-use asm_scan::tokens;
+use asm_line::{Names, Replacements, arguments, replace, tokens};
 use row_text::Row;
 use std::alloc::{AllocError, Global};
 use std::rc::Rc;

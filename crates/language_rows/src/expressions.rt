@@ -5,7 +5,7 @@ use asm_expr::{
     Expr, ExprFault, Names, Room, Settled, constant, has_places, is_constant, is_defined, items,
     offset_from_here, parse, settle, value,
 };
-use asm_scan::tokens;
+use asm_line::tokens;
 use row_text::Row;
 use std::alloc::Global;
 

@@ -1,8 +1,8 @@
 //! Rows about parsed lines.
 
+use asm_line::{Token, tokens};
 use asm_module::{SourceText, read_source};
 use asm_parse::{Item, KeptName, Term, TermView, Tree};
-use asm_scan::{Token, tokens};
 use asm_spell::{Body, Line, Value, is_name, statement};
 use row_text::Row;
 

@@ -1,7 +1,6 @@
 //! Rows about the tokens of a line, and about how a line begins.
 
-use asm_line::{Head, form_of, names};
-use asm_scan::{ScanFault, Token, tokens};
+use asm_line::{Head, ScanFault, Token, form_of, names, tokens};
 use row_text::Row;
 
 /// Prints a text in `<` and `>`.

@@ -3,7 +3,7 @@
 ghost use Rattle.asm_expr.specs.Names.{IsCounted};
 
 use asm_expr::{Meaning, Names, Tree, equate, is_defined, parse};
-use asm_scan::tokens;
+use asm_line::tokens;
 use row_text::Row;
 use std::alloc::{AllocError, Global};
 

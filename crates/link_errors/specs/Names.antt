@@ -1,6 +1,6 @@
 -- The names of errors of the modules together.
 use Rattle.std.specs.Prelude.{ℕ, List, []}
-use Rattle.shared_lines.specs.Faults.Refusals.{of_link, program_refusal_text}
+use Rattle.report_texts.specs.Faults.Refusals.{of_link, program_refusal_text}
 use Rattle.zlink.specs.declared.fault.LinkFault.{LinkFault}
 
 -- the name by which building reports an error of the modules together

@@ -1,12 +1,12 @@
 //! Finds lines of sources by the names that they define or declare.
 
 use asm_module::{SourceLine, SourceText, read_source};
-use asm_spell::{Body, Line};
+use asm_spell::{Body, Line, StmtFault, statement};
 use common::NameKey;
 use indexmap::IndexMap;
 use report_texts::Where;
 use std::alloc::{AllocError, Global};
-use written_lines::Sources;
+use written_lines::{Site, Sources, Trace, Traces, tokens_of, traced};
 
 /// Numbers of lines by names in upper case.
 type Lines = IndexMap<Vec<u8>, u32, NameKey>;
@@ -16,6 +16,10 @@ type Lines = IndexMap<Vec<u8>, u32, NameKey>;
 pub(crate) struct NameLines {
     labels: Lines,
     externals: Lines,
+    /// The lines of the expansion that declare externals, counted from 0.
+    declaring: Lines,
+    /// The expansion, and where its lines are written; None if that is not known, or the source declares no externals.
+    trace: Option<Trace>,
 }
 
 /// Keeps the line of a name, unless an earlier one has it.
@@ -24,6 +28,41 @@ fn keep(lines: &mut Lines, name: &[u8], number: u32, alloc: Global) -> Result<()
         lines.insert(name.to_vec(alloc)?, number)?;
     }
     Ok(())
+}
+
+/// Keeps a line of an expansion for each name that a statement declares as an external.
+fn keep_names(
+    lines: &mut Lines,
+    alloc: Global,
+    number: u32,
+    line: &Line,
+) -> Result<(), AllocError> {
+    let Line::Statement {
+        body: Some(Body::External(names)),
+        ..
+    } = line
+    else {
+        return Ok(());
+    };
+    for name in names {
+        keep(lines, name, number, alloc)?;
+    }
+    Ok(())
+}
+
+/// Keeps a line of an expansion for each name that it declares as an external, if it is an EXTRN.
+fn keep_declared(
+    lines: &mut Lines,
+    alloc: Global,
+    number: u32,
+    line: &[u8],
+) -> Result<(), AllocError> {
+    let found = tokens_of(alloc, line)?;
+    match statement(alloc, &found) {
+        Ok(line) => keep_names(lines, alloc, number, &line),
+        Err(StmtFault::NoMemory) => Err(AllocError),
+        Err(_) => Ok(()),
+    }
 }
 
 /// Answers the lines of the expansion of a source that has no error.
@@ -51,15 +90,39 @@ impl NameLines {
         Ok(())
     }
 
+    /// Keeps the lines of an expansion that declare externals.
+    fn add_declaring(&mut self, alloc: Global, trace: &Trace) -> Result<(), AllocError> {
+        for (at, line) in trace.lines.iter().enumerate() {
+            let at = u32::try_from(at).unwrap_or(u32::MAX);
+            keep_declared(&mut self.declaring, alloc, at, &line.text)?;
+        }
+        Ok(())
+    }
+
+    /// Finds where the lines are written that declare externals.
+    fn trace_externals(&mut self, alloc: Global, text: &[u8]) -> Result<(), AllocError> {
+        let Traces { stop: _, whole } = traced(alloc, text)?;
+        if let Some(trace) = &whole {
+            self.add_declaring(alloc, trace)?;
+        }
+        self.trace = whole;
+        Ok(())
+    }
+
     /// Finds the lines of all names of a source that has no error.
     pub(crate) fn of(alloc: Global, text: &[u8]) -> Result<NameLines, AllocError> {
         let key = NameKey::of(text);
         let mut names = NameLines {
             labels: IndexMap::with_hasher(alloc, key),
             externals: IndexMap::with_hasher(alloc, key),
+            declaring: IndexMap::with_hasher(alloc, key),
+            trace: None,
         };
         for line in &read(alloc, text)? {
             names.add(alloc, line)?;
+        }
+        if !names.externals.is_empty() {
+            names.trace_externals(alloc, text)?;
         }
         Ok(names)
     }
@@ -70,8 +133,28 @@ impl NameLines {
     }
 
     /// The EXTRN that declares this name; 1 if there is none.
-    pub(crate) fn external(&self, name: &[u8]) -> u32 {
+    fn external(&self, name: &[u8]) -> u32 {
         self.externals.get(name).copied().unwrap_or(1)
+    }
+
+    /// Where the EXTRN that declares a name is written, which in a macro is a line of its body; None if that is not known.
+    fn written(&self, name: &[u8]) -> Option<Site<'_>> {
+        let at = *self.declaring.get(name)?;
+        Site::traced(self.trace.as_ref()?, at as usize, self.external(name))
+    }
+
+    /// The line of this source with the EXTRN that declares a name.
+    pub(crate) fn site<'e>(
+        &'e self,
+        sources: &Sources<'e, '_>,
+        source: usize,
+        name: &[u8],
+    ) -> Site<'e> {
+        let line = self.external(name);
+        match self.written(name) {
+            Some(site) => site,
+            None => Site::plain(line, sources.line(source, line)),
+        }
     }
 }
 

@@ -2,11 +2,11 @@
 
 ghost use Rattle.std.specs.Prelude.{◌≡◌, [], All, IfOk, OnOk, map, string_bytes, true};
 ghost use Rattle.std.specs.List.{list_any};
-ghost use Rattle.shared_lines.specs.Faults.Refusals.{program_refusal_text};
+ghost use Rattle.report_texts.specs.Faults.Refusals.{program_refusal_text};
 ghost use Rattle.report_texts.specs.Reports.{bears_name};
 ghost use Rattle.link_errors.specs.Names.{link_name};
-ghost use Rattle.zmo_module.specs.Modules.{module_of};
-ghost use Rattle.zmo_module.specs.Rules.{IsModule};
+ghost use Rattle.zmo_object.specs.Modules.{module_of};
+ghost use Rattle.zmo_object.specs.Rules.{IsModule};
 
 use crate::joined::{NameLines, Sought, find};
 use crate::reaching::{put_range, put_size};
@@ -14,10 +14,9 @@ use asm_module::{Lines, Module};
 use common::{KeyMixer, NameKey};
 use indexmap::IndexMap;
 use message_texts::Note;
-use report_texts::{Report, Severity, Where};
-use shared_lines::{Refusal, Told};
+use report_texts::{Refusal, Report, Severity, Told, Where};
 use std::alloc::{AllocError, Global};
-use written_lines::Sources;
+use written_lines::{Site, Sources};
 use zlink::{JoinFault, LinkFault, Misfit};
 
 /// The names of errors as a refusal prints them.
@@ -57,7 +56,6 @@ pub(crate) fn error_at(
         at,
         text,
         name: name_of(alloc, refusal)?,
-        about: Vec::new(alloc),
         notes,
     })
 }
@@ -109,18 +107,38 @@ impl<'n, 's, 'f> Named<'n, 's, 'f> {
         }
     }
 
-    /// The line of the EXTRN of a name; 1 if there is none.
-    fn external(&self, source: usize, name: &[u8]) -> u32 {
+    /// The line with the EXTRN of a name; the first line if there is none.
+    fn external(&self, source: usize, name: &[u8]) -> Site<'n> {
         match self.names.get(source) {
-            Some(names) => names.external(name),
-            None => 1,
+            Some(names) => names.site(self.sources, source, name),
+            None => Site::plain(1, self.sources.line(source, 1)),
         }
     }
 
-    /// Whether the EXTRN of a name is in a shared file, so that each source has it.
-    fn is_shared(&self, source: usize, name: &[u8]) -> bool {
-        self.external(source, name) as usize <= self.sources.before
+    /// The external of this name, if its EXTRN is in a shared file, also in the body of a macro there: several sources may have that.
+    fn shared(
+        &self,
+        alloc: Global,
+        source: usize,
+        name: &[u8],
+    ) -> Result<Option<SharedExternal>, AllocError> {
+        let line = self.external(source, name).line;
+        if line as usize > self.sources.before {
+            return Ok(None);
+        }
+        Ok(Some(SharedExternal {
+            line,
+            name: name.to_vec(alloc)?,
+        }))
     }
+}
+
+/// An external that a line of a shared file declares.
+#[derive(PartialEq, Eq, Hash, Drop)]
+struct SharedExternal {
+    /// The line, which in a macro is one of the body.
+    line: u32,
+    name: Vec<u8>,
 }
 
 /// The first of the sources that have an external of a shared file, and how many sources have it.
@@ -130,59 +148,68 @@ struct Concerned {
     count: usize,
 }
 
-/// The externals of shared files by their names.
+/// The externals of shared files.
 #[derive(Drop)]
-struct SharedExternals<'a> {
-    names: IndexMap<&'a [u8], Concerned, NameKey>,
+struct SharedExternals {
+    externals: IndexMap<SharedExternal, Concerned, NameKey>,
 }
 
-impl<'a> SharedExternals<'a> {
+impl SharedExternals {
     /// Adds those of a module, which has this number.
     fn add(
         &mut self,
+        alloc: Global,
         named: Named<'_, '_, '_>,
         number: usize,
-        module: &'a Module,
+        module: &Module,
     ) -> Result<(), AllocError> {
         for name in &module.externals {
-            let name = name.as_slice();
-            if named.is_shared(number, name) {
-                let (first, count) = match self.names.get(name) {
+            if let Some(shared) = named.shared(alloc, number, name)? {
+                let (first, count) = match self.externals.get(&shared) {
                     Some(known) => (known.first, known.count),
                     None => (number, 0),
                 };
                 let count = count.saturating_add(1);
-                self.names.insert(name, Concerned { first, count })?;
+                self.externals.insert(shared, Concerned { first, count })?;
             }
         }
         Ok(())
     }
 
-    /// How many sources the error of an external of this source concerns; None if it is one of an earlier source too.
-    fn concerned(&self, number: usize, name: &[u8]) -> Option<usize> {
-        match self.names.get(name) {
+    /// How many sources the error of an external of this source concerns; None if an earlier source has it by the same line of a shared file.
+    fn concerned(
+        &self,
+        alloc: Global,
+        named: Named<'_, '_, '_>,
+        number: usize,
+        name: &[u8],
+    ) -> Result<Option<usize>, AllocError> {
+        let Some(shared) = named.shared(alloc, number, name)? else {
+            return Ok(Some(1));
+        };
+        Ok(match self.externals.get(&shared) {
             Some(known) if known.first != number => None,
             Some(known) => Some(known.count),
             None => Some(1),
-        }
+        })
     }
 }
 
 /// The externals of shared files that modules have.
-fn shared_externals<'a>(
+fn shared_externals(
     alloc: Global,
     named: Named<'_, '_, '_>,
-    modules: &'a [Module],
-) -> Result<SharedExternals<'a>, AllocError> {
+    modules: &[Module],
+) -> Result<SharedExternals, AllocError> {
     let mut mixer = KeyMixer::new();
     for module in modules {
         mixer.mix_all(&module.externals);
     }
     let mut shared = SharedExternals {
-        names: IndexMap::with_hasher(alloc, mixer.key()),
+        externals: IndexMap::with_hasher(alloc, mixer.key()),
     };
     for (number, module) in modules.iter().enumerate() {
-        shared.add(named, number, module)?;
+        shared.add(alloc, named, number, module)?;
     }
     Ok(shared)
 }
@@ -241,19 +268,19 @@ impl<'a> Publics<'a> {
         Ok(())
     }
 
-    /// Reports the externals of a module that are public nowhere; one of a shared file only for the first source.
+    /// Reports the externals of a module that are public nowhere; one that a line of a shared file declares only for the first source.
     fn put_unresolved(
         &self,
         alloc: Global,
         named: Named<'_, '_, '_>,
-        shared: &SharedExternals<'_>,
+        shared: &SharedExternals,
         number: usize,
         module: &Module,
         reports: &mut Vec<Report>,
     ) -> Result<(), AllocError> {
         for (external, name) in module.externals.iter().enumerate() {
             if self.names.get(name.as_slice()).is_none() {
-                if let Some(count) = shared.concerned(number, name) {
+                if let Some(count) = shared.concerned(alloc, named, number, name)? {
                     reports.push(unresolved(alloc, named, number, external, name, count)?)?;
                 }
             }
@@ -272,16 +299,19 @@ fn unresolved(
     count: usize,
 ) -> Result<Report, AllocError> {
     let shown = shown(name);
-    let line = named.external(module, name);
+    let site = named.external(module, name);
     let mut report = error_at(
         alloc,
-        Some(named.sources.named(alloc, module, line, name)?),
+        Some(named.sources.mark(alloc, module, site, name)?),
         format!(in alloc; "`{shown}` is public in no source")?,
         Refusal::Modules(JoinFault::Unresolved(module, external)),
         Some(Note::Help(format!(in alloc;
             "write `PUBLIC {shown}` in the source that has the label, and give that source too"
         )?)),
     )?;
+    named
+        .sources
+        .put_calls(alloc, module, site, &mut report.notes)?;
     if count > 1 {
         report.notes.push(Note::Note(format!(in alloc;
             "this EXTRN is in a shared file, and concerns {count} sources"
@@ -405,7 +435,6 @@ fn plain(alloc: Global, fault: &LinkFault, text: String) -> Result<Report, Alloc
         at: None,
         text,
         name: name_of(alloc, Refusal::of_link(fault))?,
-        about: Vec::new(alloc),
         notes: Vec::new(alloc),
     })
 }

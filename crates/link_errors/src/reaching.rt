@@ -1,21 +1,20 @@
 //! Reports jumps that do not reach their targets, and programs that are too large.
 
 ghost use Rattle.std.specs.Prelude.{All, map};
-ghost use Rattle.zmo_module.specs.Modules.{module_of};
-ghost use Rattle.zmo_module.specs.Rules.{IsModule};
+ghost use Rattle.zmo_object.specs.Modules.{module_of};
+ghost use Rattle.zmo_object.specs.Rules.{IsModule};
 
 use crate::linking::{error_at, shown};
 use asm_module::{Lines, Module};
 use message_texts::Note;
 use relax::least;
-use report_texts::Report;
-use shared_lines::Refusal;
+use report_texts::{Refusal, Report};
 use std::alloc::{AllocError, Global};
 use written_lines::{Expansions, Site, Sources, mentioned};
 use z80_instr::{Branch, ShortCond};
 use zlink::laws::laid_out;
 use zlink::{Links, Misfit, join, places_of, shape_of};
-use zmo_module::Statement;
+use zmo_object::Statement;
 
 /// How far a short jump reaches, counted from the next statement.
 const FARTHEST: u32 = 127;

@@ -1,10 +1,10 @@
 //! Builds programs whose sources are files in the folder `data`.
 
 use crate::shown::{show_checked, show_digits};
+use program_map::{listing, symbols};
 use row_text::Row;
 use std::fs;
 use zlink::{Built, Source, build};
-use zlisting::{listing, symbols};
 
 /// The address at which a file is loaded.
 const BASE: usize = 0x0100;

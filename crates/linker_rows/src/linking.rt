@@ -1,8 +1,8 @@
 //! Assembles sources to modules, and links these.
 
 ghost use Rattle.std.specs.Prelude.{All, IfSome, map};
-ghost use Rattle.zmo_module.specs.Modules.{module_of};
-ghost use Rattle.zmo_module.specs.Rules.{IsModule};
+ghost use Rattle.zmo_object.specs.Modules.{module_of};
+ghost use Rattle.zmo_object.specs.Rules.{IsModule};
 
 use crate::shown::show_digits;
 use crate::sources::{grow_of, lines_in};

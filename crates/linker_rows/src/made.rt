@@ -1,10 +1,10 @@
 //! Prints listings and symbols of programs that no build answers: the row says what they have.
 
 use crate::shown::show_lines;
+use program_map::{listing, symbols};
 use row_text::Row;
 use std::alloc::Global;
 use zlink::{Built, Origin, Source, Symbol};
-use zlisting::{listing, symbols};
 
 /// Answers a program with these bytes and nothing else.
 fn made(alloc: Global, com: Vec<u8>) -> Built {

@@ -2,7 +2,7 @@
 
 use crate::sources::{grow_of, texts_of};
 use row_text::Row;
-use z80dev_make::{Front, Products, SourceFile, Wanted, asm, build};
+use z80dev_make::{Front, Products, SharedFile, SourceFile, Wanted, asm, build};
 
 /// Nothing but the program, its sizes file and its certificate.
 const NOTHING_MORE: Products = Products {
@@ -63,9 +63,10 @@ pub(crate) fn answer_asm(row: &mut Row) {
     let [shared, file, ..] = files.as_slice() else {
         return row.refuse("no source");
     };
+    let before = [SharedFile::new(*shared)];
     let front = Front {
         defines: &["SIZE=2"],
-        files: &[*shared],
+        files: &before,
     };
     let object = asm(row.alloc(), front, *file, grow, true);
     show_lines(row, &object.warnings);

@@ -22,7 +22,7 @@ use Rattle.machine_history.specs.Walk.{IsAfter, LeadsBy, MakesTurn, MemoryState,
 use Rattle.machine_history.specs.Walk.LeadsBy.{none, more}
 use Rattle.machine_history.proofs.AsRun.{unended}
 use Rattle.machine_history.proofs.Going.{counted}
-use Rattle.machine_history.proofs.Recorded.{Below, Rising, all_before, below_both, below_more, due_now, rising, split}
+use Rattle.machine_history.proofs.Recordings.{Below, Rising, all_before, below_both, below_more, due_now, rising, split}
 
 -- a session in which these bytes have come, and nothing was shown
 abbrev session : ℕ → List Arrival → RunState Image Dialog → PlayState Image

@@ -1,8 +1,12 @@
 pub mod Going
 mod Turning
-mod Recorded
 mod AsRun
 mod AsSession
 mod Held
 pub mod OneState
 pub mod OneStop
+mod Cutting
+mod Leftovers
+pub mod OneRecord
+mod Order
+mod Recordings

@@ -8,7 +8,7 @@ use Rattle.cpm_bdos.specs.System.{new_system}
 use Rattle.cpm_console.specs.Dialog.{Dialog, dialog_of}
 use Rattle.cpm_disk.specs.Calls.{Mounted}
 use Rattle.cpm_disk.specs.Image.{Image}
-use Rattle.cpm_fcb.specs.declared.stop.Stop.TheVariants as stop
+use Rattle.cpm_disk.specs.declared.control.stop.Stop.TheVariants as stop
 use Rattle.cpm_run.proofs.OneRun.{AlikeRuns, OneStep, one_turn as one_run_turn}
 use Rattle.cpm_run.specs.Turns.{is_finished}
 use Rattle.cpm_run.specs.Undisturbed.{IsUndisturbed}

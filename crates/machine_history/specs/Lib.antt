@@ -4,4 +4,5 @@ pub mod Calls
 pub mod Stops
 pub mod Going
 pub mod Alike
+pub mod Recorded
 pub mod Private

@@ -1,3 +1,4 @@
 -- Definitions that only private contracts use, so no public promise depends on them.
 pub mod Kept
 pub mod Typing
+pub mod Cuts

@@ -1,7 +1,7 @@
 //! Compares the operations on all bytes with a plain computation in whole numbers.
 
 use row_text::Row;
-use z80_alu::Flags;
+use z80_cpu::Flags;
 use z80_instr::AluOperation;
 
 /// Whether a sum or difference of two signed bytes is outside -128 to 127. Each was made 128 larger, so it is from 0 to 255, and the sum

@@ -1,7 +1,7 @@
 //! Reads a line as an instruction with its numbers.
 
+use asm_line::tokens;
 use asm_parse::{Binary, Item, Term, Tree, Unary};
-use asm_scan::tokens;
 use asm_spell::{Body, Line, StmtFault, statement};
 use std::alloc::{AllocError, Global};
 use z80_form::{Field, with_numbers};

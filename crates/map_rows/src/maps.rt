@@ -1,8 +1,8 @@
 //! Prints maps.
 
 ghost use Rattle.std.specs.Prelude.{All, IfSome, map};
-ghost use Rattle.zmo_module.specs.Modules.{module_of};
-ghost use Rattle.zmo_module.specs.Rules.{IsModule};
+ghost use Rattle.zmo_object.specs.Modules.{module_of};
+ghost use Rattle.zmo_object.specs.Rules.{IsModule};
 
 use crate::input::{grow_of, sources_of, texts_of};
 use crate::shown::show_lines;

@@ -4,7 +4,7 @@ use bstr::ByteSlice;
 use row_text::Row;
 use std::alloc::AllocError;
 use z80dev_explain::{Asked, Explanation, Form, explain_sources};
-use z80dev_make::{Front, SourceFile};
+use z80dev_make::{Front, SharedFile, SourceFile};
 
 /// The paths of the sources.
 const PATHS: [&str; 4] = ["A", "B", "C", "E"];
@@ -51,7 +51,7 @@ fn explained(row: &Row<'_>, options: &str, texts: &[Vec<u8>]) -> Result<Explanat
     let (front, behind) = texts.split_at(shared);
     let mut before = Vec::new(row.alloc());
     for text in front {
-        before.push(SourceFile { path: "D", text })?;
+        before.push(SharedFile::new(SourceFile { path: "D", text }))?;
     }
     let mut files = Vec::new(row.alloc());
     for (path, text) in PATHS.iter().zip(behind) {

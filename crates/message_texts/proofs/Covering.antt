@@ -1,10 +1,10 @@
 -- A line has one list of tokens, so a place that is one of those that were found is one of those that it has.
 use Rattle.std.proofs.Common.{◌≡◌, ◌<◌, ℕ, List, Result, Ok, Err, Vec, Global, sym, subst, ◌∙◌, ap, length, arith, ◌⊎◌, inl, inr}
 use Rattle.std.proofs.lemmas.List.{length-map}
-use Rattle.asm_scan.specs.declared.fault.ScanFault.{ScanFault}
-use Rattle.asm_scan.specs.declared.token.Token.{Token}
-use Rattle.asm_scan.specs.Tokens.{Lexeme, answered_tokens, lexeme, lexemes}
-use Rattle.asm_scan.specs.Scanned.{scanned}
+use Rattle.asm_line.specs.declared.fault.ScanFault.{ScanFault}
+use Rattle.asm_line.specs.declared.token.Token.{Token}
+use Rattle.asm_line.specs.Tokens.{Lexeme, answered_tokens, lexeme, lexemes}
+use Rattle.asm_line.specs.Scanned.{scanned}
 use Rattle.message_texts.specs.declared.parts.Place.{Place}
 use Rattle.message_texts.specs.Places.{CoversTokens}
 

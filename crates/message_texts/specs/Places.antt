@@ -1,8 +1,8 @@
 -- Where in a line the place of a message is.
 use Rattle.std.specs.Prelude.{◌≡◌, ◌+◌, ◌-◌, ◌<◌, ◌≤◌, ℕ, List, length, take}
-use Rattle.asm_scan.specs.Tokens.{Lexeme}
-use Rattle.asm_scan.specs.Lines.{without_blanks}
-use Rattle.asm_replace.specs.Pieces.{behind_all}
+use Rattle.asm_line.specs.Tokens.{Lexeme}
+use Rattle.asm_line.specs.Lines.{without_blanks}
+use Rattle.asm_line.specs.Replacing.Pieces.{behind_all}
 use Rattle.message_texts.specs.declared.parts.Place.{Place}
 
 -- The place ends where the line ends, or before.

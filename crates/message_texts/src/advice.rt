@@ -6,14 +6,15 @@ use crate::intel::row_of;
 type Row = (&'static str, &'static str);
 
 const FILES: &str =
-    "leave it out: give a file of EQU lines and macros by `--with`, and other files as sources to `build`";
+    "leave it out: give a file of EQU lines and macros by `--with FILE`, and other files as sources to `build`";
 
 const INCLUDED_BYTES: &str = "write the bytes of the file as DB lines";
 
 const CHANGING: &str =
     "a name keeps its value: use EQU, a macro with a parameter, or write the lines out";
 
-const DEFINED: &str = "`IF DEBUG`, with `DEBUG EQU 1` before it or `build --define DEBUG=1`";
+pub(crate) const DEFINED: &str =
+    "`IF DEBUG`, with `DEBUG EQU 1` before it or `build --define DEBUG=1`";
 
 const UNDEFINED: &str = "`IF DEBUG EQ 0`, with `DEBUG EQU 0` before it or `build --define DEBUG=0`";
 
@@ -24,6 +25,9 @@ const LISTS: &str =
 
 const SEGMENTS: &str =
     "leave it out: lines stay in their order, so code that follows data moves up";
+
+const DATA_SEGMENT: &str =
+    "leave it out: lines stay in their order; if values follow, write `DB` or `DW`";
 
 const MOVED: &str =
     "write each address in the moved code as its distance from the beginning plus the new address";
@@ -129,7 +133,7 @@ const REPETITIONS: [Row; 18] = [
     ("MODULE", NAMESPACES),
 ];
 
-const PARTS: [Row; 23] = [
+const PARTS: [Row; 25] = [
     ("ASEG", SEGMENTS),
     ("CSEG", SEGMENTS),
     ("DSEG", SEGMENTS),
@@ -140,6 +144,8 @@ const PARTS: [Row; 23] = [
     ("AREA", SEGMENTS),
     (".CODE", SEGMENTS),
     (".DATA", SEGMENTS),
+    ("DATA", DATA_SEGMENT),
+    (".SECTION", SEGMENTS),
     (".PHASE", MOVED),
     (".DEPHASE", MOVED),
     ("PHASE", MOVED),

@@ -1,6 +1,6 @@
 //! Cuts a line into tokens.
 
-use asm_scan::{ScanFault, Token, tokens};
+use asm_line::{ScanFault, Token, tokens};
 use std::alloc::{AllocError, Global};
 
 /// The tokens of a line; none if it cannot be cut.

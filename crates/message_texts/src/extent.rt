@@ -1,6 +1,6 @@
 //! Where in a line the token begins that has an error.
 
-use asm_scan::{Token, begins_name, blank_len, continues_name, tokens};
+use asm_line::{Token, begins_name, blank_len, continues_name, tokens};
 use std::alloc::Global;
 
 /// How many bytes a string at the front takes, its quotes included; all bytes if it has no end.

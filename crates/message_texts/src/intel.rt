@@ -1,11 +1,11 @@
 //! The mnemonics of the 8080, and what each is on the Z80.
 
 use crate::{Operand, joined};
-use asm_scan::Token;
+use asm_line::Token;
 use std::alloc::{AllocError, Global};
 
 /// A mnemonic of the 8080, and the statement of the Z80. In that, `1` and `2` stand for the operands, and `p` for the register pair that the
-/// first operand names.
+/// first operand names. PUSH and POP, which also take PSW, are words of the Z80, so they are in no row.
 type Row = (&'static str, &'static str);
 
 const MOVES: [Row; 13] = [
@@ -121,39 +121,38 @@ fn is_name(tokens: &[Token<'_>], name: &[u8]) -> bool {
     }
 }
 
-/// A register pair of the 8080 as the Z80 names it; None if tokens name none.
+/// The name of the Z80 for a register pair that a row's first operand names, by the name of either processor; None if it names none. PSW is
+/// not one of them: it is AF only for PUSH and POP.
 fn pair_of(tokens: &[Token<'_>]) -> Option<&'static str> {
-    if is_name(tokens, b"B") {
+    if is_name(tokens, b"B") || is_name(tokens, b"BC") {
         Some("BC")
-    } else if is_name(tokens, b"D") {
+    } else if is_name(tokens, b"D") || is_name(tokens, b"DE") {
         Some("DE")
-    } else if is_name(tokens, b"H") {
+    } else if is_name(tokens, b"H") || is_name(tokens, b"HL") {
         Some("HL")
-    } else if is_name(tokens, b"PSW") {
-        Some("AF")
+    } else if is_name(tokens, b"SP") {
+        Some("SP")
     } else {
         None
     }
 }
 
-/// Appends an operand of the 8080 as the Z80 names it: as a register pair, if it is one there.
+/// Whether no statement of a row takes this operand.
+fn is_never_taken(operand: &Operand<'_>) -> bool {
+    operand.tokens.is_empty() || is_name(operand.tokens, b"PSW")
+}
+
+/// Appends an operand of the 8080 as the Z80 writes it.
 fn put_operand(
     alloc: Global,
     text: &mut String,
     operand: Option<&Operand<'_>>,
-    is_pair: bool,
 ) -> Result<(), AllocError> {
-    let Some(operand) = operand else {
-        return Ok(());
-    };
-    if is_pair {
-        if let Some(pair) = pair_of(operand.tokens) {
-            return text.push_str(pair);
-        }
-    } else if is_name(operand.tokens, b"M") {
-        return text.push_str("(HL)");
+    match operand {
+        Some(operand) if is_name(operand.tokens, b"M") => text.push_str("(HL)"),
+        Some(operand) => text.push_str(&joined(alloc, operand.tokens)?),
+        None => Ok(()),
     }
-    text.push_str(&joined(alloc, operand.tokens)?)
 }
 
 /// Whether a word in upper case is a mnemonic of the 8080.
@@ -173,7 +172,7 @@ fn operands_of(pattern: &str) -> usize {
 }
 
 /// The statement of the Z80 that a line of the 8080, of another processor or of another language is, given its word in upper case; None if
-/// nothing is known, or if the line has another number of operands.
+/// nothing is known, if the line has another number of operands, or if they are not of the kind that the mnemonic takes.
 ///
 /// # Errors
 ///
@@ -186,16 +185,20 @@ pub fn in_z80(
     let Some(pattern) = pattern_of(word).or(row_of(&FOREIGN, word)) else {
         return Ok(None);
     };
-    let is_any_empty = operands.iter().any(|operand| operand.tokens.is_empty());
-    if is_any_empty || operands.len() != operands_of(pattern) {
+    if operands.iter().any(|operand| is_never_taken(operand))
+        || operands.len() != operands_of(pattern)
+    {
         return Ok(None);
     }
     let mut text = String::new(alloc);
     for letter in pattern.chars() {
         match letter {
-            '1' => put_operand(alloc, &mut text, operands.first(), false)?,
-            '2' => put_operand(alloc, &mut text, operands.get(1), false)?,
-            'p' => put_operand(alloc, &mut text, operands.first(), true)?,
+            '1' => put_operand(alloc, &mut text, operands.first())?,
+            '2' => put_operand(alloc, &mut text, operands.get(1))?,
+            'p' => match operands.first().and_then(|operand| pair_of(operand.tokens)) {
+                Some(pair) => text.push_str(pair)?,
+                None => return Ok(None),
+            },
             _ => text.push(letter)?,
         }
     }

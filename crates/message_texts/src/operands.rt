@@ -1,7 +1,6 @@
 //! The operands of a line, as its parser cuts and reads them.
 
-use asm_line::{is_comma, open_behind};
-use asm_scan::{Kind, Mark, Token};
+use asm_line::{Kind, Mark, Token, is_comma, open_behind};
 use z80_form::{Form, Name, Pointed, name_of};
 use z80_instr::IndexRegister;
 

@@ -1,16 +1,15 @@
 //! Where in a line some of its tokens are.
 
 ghost use Rattle.std.specs.Prelude.{◌≡◌, ◌+◌, ◌-◌, ◌<◌, ◌≤◌, List, Ok, IfOk, length};
-ghost use Rattle.asm_scan.specs.Tokens.{Lexeme, lexemes};
-ghost use Rattle.asm_scan.specs.Scanned.{scanned};
-ghost use Rattle.asm_scan.specs.Lines.{without_blanks};
-ghost use Rattle.asm_replace.specs.Pieces.{behind_all};
+ghost use Rattle.asm_line.specs.Tokens.{Lexeme, lexemes};
+ghost use Rattle.asm_line.specs.Scanned.{scanned};
+ghost use Rattle.asm_line.specs.Lines.{without_blanks};
+ghost use Rattle.asm_line.specs.Replacing.Pieces.{behind_all};
 ghost use Rattle.message_texts.specs.Places.{CoversTokens, IsInLine};
 
 use crate::draft::Spot;
 use crate::parts::Place;
-use asm_replace::after;
-use asm_scan::{ScanFault, Token, blank_len, tokens};
+use asm_line::{ScanFault, Token, after, blank_len, tokens};
 use std::alloc::{AllocError, Global};
 
 /// The rest of a line after its first tokens.

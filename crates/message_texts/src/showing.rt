@@ -3,7 +3,7 @@
 ghost use Rattle.std.specs.Prelude.{◌≡◌, ◌≤◌, ◌<◌, IfOk, OnOk, string_bytes};
 ghost use Rattle.message_texts.specs.Texts.{IsOneLine};
 
-use asm_scan::{Kind, Mark, Token};
+use asm_line::{Kind, Mark, Token};
 use std::alloc::{AllocError, Global};
 
 /// The hexadecimal digit of a number below 16.

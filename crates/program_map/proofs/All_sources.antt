@@ -4,15 +4,15 @@ use Rattle.std.specs.List.{AllByRecursion, AllZip, flat_map, sum_by, zip}
 use Rattle.std.proofs.lemmas.List.{length-map, map-append, take_more}
 use Rattle.std.proofs.lemmas.List.Sums.{sum_by-cons}
 use Rattle.asm_module.specs.Assembled.{Assembled}
-use Rattle.asm_statements.specs.Program.Statement as statement
-use Rattle.asm_statements.specs.Program.Statement.{Statement}
+use Rattle.asm_module.specs.Program.Statement as statement
+use Rattle.asm_module.specs.Program.Statement.{Statement}
 use Rattle.zlink.specs.Program.Laws.{statement_count}
 use Rattle.zlink.specs.Program.Parts.{ModulePart, Publics, all_publics, parts, parts_from}
 use Rattle.zlink.specs.Program.Whole.{stands}
 use Rattle.zlink.specs.Renumbered.{statement_in}
 use Rattle.zlink.specs.Sources.{Assembly, AreAssembled, IsAssembly, in_whole, modules_of, program_of}
 use Rattle.zlink.specs.declared.source.Source.{Source}
-use Rattle.zmo_module.specs.Modules.{Module}
+use Rattle.zmo_object.specs.Modules.{Module}
 use Rattle.program_map.specs.declared.kind.Kind.{Kind}
 use Rattle.program_map.specs.Kinds.{statement_kind, kinds}
 

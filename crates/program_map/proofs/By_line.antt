@@ -18,9 +18,9 @@ use Rattle.asm_names.specs.Lines.{Taken}
 use Rattle.asm_names.specs.Names.{Names, names}
 use Rattle.asm_parse.specs.declared.item.Item.{Item}
 use Rattle.asm_parse.specs.Source.{Name}
-use Rattle.asm_scan.specs.Scanned.{scanned}
-use Rattle.asm_scan.specs.Tokens.{Lexeme}
-use Rattle.asm_scan.specs.declared.fault.ScanFault.{ScanFault}
+use Rattle.asm_line.specs.Scanned.{scanned}
+use Rattle.asm_line.specs.Tokens.{Lexeme}
+use Rattle.asm_line.specs.declared.fault.ScanFault.{ScanFault}
 use Rattle.asm_spell.specs.declared.fault.StmtFault.{StmtFault}
 use Rattle.asm_spell.specs.Faults.{each}
 use Rattle.asm_spell.specs.Line as line
@@ -32,24 +32,24 @@ use Rattle.asm_stmt.specs.Cells.{all_told, bytes, holes, is_told, number_or_0}
 use Rattle.asm_stmt.specs.Fields.{settled_in}
 use Rattle.asm_stmt.specs.declared.cell.Cell.{Cell}
 use Rattle.asm_stmt.specs.declared.cell.Filling.{Filling}
-use Rattle.asm_statements.specs.declared.fault.StateFault.{StateFault}
-use Rattle.asm_statements.specs.Module.Faults.{body_fault, made_fault}
-use Rattle.asm_statements.specs.Module.Stated.{first_statement_fault, numbered_statements, statement_fault, table_at_line}
-use Rattle.asm_statements.specs.Module.Statements.{line_statement, of_made, statement_by}
-use Rattle.asm_statements.specs.Outlines.{layout, source_table}
-use Rattle.asm_statements.specs.Program.Lines.{line_states, program_of_lines}
-use Rattle.asm_statements.specs.Program.Spelled.{IsSpelled}
-use Rattle.asm_statements.specs.Program.Statement as statement
-use Rattle.asm_statements.specs.Program.Statement.{Statement, jump_statement, short_statement, spaced, stated}
+use Rattle.asm_module.specs.declared.statements.fault.StateFault.{StateFault}
+use Rattle.asm_module.specs.Module.Faults.{body_fault, made_fault}
+use Rattle.asm_module.specs.Module.Stated.{first_statement_fault, numbered_statements, statement_fault, table_at_line}
+use Rattle.asm_module.specs.Module.Statements.{line_statement, of_made, statement_by}
+use Rattle.asm_module.specs.Outlines.{layout, source_table}
+use Rattle.asm_module.specs.Program.Lines.{line_states, program_of_lines}
+use Rattle.asm_module.specs.Program.Spelled.{IsSpelled}
+use Rattle.asm_module.specs.Program.Statement as statement
+use Rattle.asm_module.specs.Program.Statement.{Statement, jump_statement, short_statement, spaced, stated}
 use Rattle.asm_text.specs.Lines.{Numbered}
 use Rattle.asm_module.specs.Assembled.{Assembled, Assembles, IsStated, TellsLines, answer, assembled}
 use Rattle.asm_module.specs.declared.fault.AsmFault.{AsmFault}
 use Rattle.asm_module.specs.declared.line_fault.LineFault.{LineFault}
 use Rattle.asm_module.specs.Reads.Read.{read_line, scanned_by, spelled_by, taken, with_line}
 use Rattle.asm_module.specs.Source.{first_equ_line_fault, first_pass, source_fault, state_fault}
-use Rattle.zmo_module.specs.declared.hole.Hole.{Hole}
-use Rattle.zmo_module.specs.Modules as object
-use Rattle.zmo_module.specs.Modules.{ModuleStatement}
+use Rattle.zmo_object.specs.declared.module.hole.Hole.{Hole}
+use Rattle.zmo_object.specs.Modules as object
+use Rattle.zmo_object.specs.Modules.{ModuleStatement}
 use Rattle.program_map.specs.declared.kind.Kind.{Kind}
 use Rattle.program_map.specs.Kinds.{statement_kind, kinds}
 use Rattle.program_map.specs.Private.Telling.{AreTold, body_kind, is_space_statement, line_kind, line_kinds, told}

@@ -7,8 +7,8 @@ use Rattle.std.proofs.lemmas.List.{length-map, map-append}
 use Rattle.std.proofs.lemmas.List.Sums.{sum_by-append, sum_by-cons}
 use Rattle.relax.specs.declared.shape.Statement.{Statement as Sized}
 use Rattle.relax.specs.declared.shape.Statement.TheVariants as sized
-use Rattle.zmo_module.specs.Modules as object
-use Rattle.zmo_module.specs.Modules.{Module, ModuleStatement}
+use Rattle.zmo_object.specs.Modules as object
+use Rattle.zmo_object.specs.Modules.{Module, ModuleStatement}
 use Rattle.zlink.specs.File.Objects.{placed_shape, sized_by}
 use Rattle.zlink.specs.Program.Parts.{ModulePart, Publics, all_publics, parts, parts_from}
 use Rattle.zlink.specs.Program.Whole.{Placed, placed_statements, program, stands}

@@ -1,14 +1,16 @@
+mod Listed
 pub mod Adding_up
-pub mod Placing
 pub mod All_sources
+pub mod ByAddress
 pub mod By_line
-pub mod Summing
-pub mod Wholly
-pub mod Told
-pub mod Long_jumps
-pub mod Ordered
-pub mod Parting
 pub mod Counting
 pub mod Figuring
+pub mod Long_jumps
 pub mod Order
-pub mod ByAddress
+pub mod Ordered
+pub mod Parting
+pub mod Placing
+pub mod Summing
+pub mod Told
+pub mod Wholly
+mod Reasoned

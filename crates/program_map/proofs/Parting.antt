@@ -6,8 +6,8 @@ use Rattle.std.specs.Global.{Global}
 use Rattle.std.specs.List.{sum_by}
 use Rattle.std.proofs.lemmas.List.{append-nil, drop_all, get_or-drop, map-append}
 use Rattle.std.proofs.lemmas.List.Sums.{sum_by-cons, sum_by_push}
-use Rattle.zmo_module.specs.declared.module.Module as whole
-use Rattle.zmo_module.specs.Modules.{Module, module_of}
+use Rattle.zmo_object.specs.declared.module.Module as whole
+use Rattle.zmo_object.specs.Modules.{Module, module_of}
 use Rattle.zlink.specs.Program.Laws.{statement_count}
 use Rattle.zlink.specs.Program.Parts.{parts_from}
 use Rattle.program_map.specs.declared.figures.Figures.{Figures}

@@ -14,7 +14,7 @@ use Rattle.zlink.specs.File.Objects.{placed_shape, sized_by}
 use Rattle.zlink.specs.Program.Laws.{statement_count}
 use Rattle.zlink.specs.Program.Whole.{program}
 use Rattle.zlink.specs.Sources.{Assembly, modules_of, program_of}
-use Rattle.zmo_module.specs.Modules.{Module}
+use Rattle.zmo_object.specs.Modules.{Module}
 use Rattle.zlink.specs.declared.building.Built.{Built}
 use Rattle.zlink.specs.declared.origins.Origin as origin
 use Rattle.program_map.specs.Figures.{Ascend}

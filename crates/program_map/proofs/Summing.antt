@@ -6,8 +6,8 @@ use Rattle.std.proofs.lemmas.Bool.Decides.{nat_tests}
 use Rattle.std.proofs.lemmas.List.{get_or-drop, length-drop, length-take-le, take_all, take_more}
 use Rattle.std.proofs.lemmas.List.Elements.{All-cons, All-nil}
 use Rattle.std.proofs.lemmas.List.Sums.{sum_by-cons}
-use Rattle.zmo_module.specs.Modules as object
-use Rattle.zmo_module.specs.Modules.{Module, ModuleStatement}
+use Rattle.zmo_object.specs.Modules as object
+use Rattle.zmo_object.specs.Modules.{Module, ModuleStatement}
 use Rattle.program_map.specs.declared.figures.Figures.{Figures}
 use Rattle.program_map.specs.declared.kind.Kind.{Kind}
 use Rattle.zlink.specs.Program.Laws.{statement_count}

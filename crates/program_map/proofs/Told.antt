@@ -2,7 +2,7 @@
 use Rattle.std.proofs.Common.{◌≡◌, ◌∙◌, ◌+◌, ℕ, Bool, true, false, cond, List, [], ◌∷◌, ◌++◌, drop, ap, sym, arith, append_assoc}
 use Rattle.std.specs.List.{slice_index_or}
 use Rattle.std.proofs.lemmas.List.{drop-drop, get_or-drop}
-use Rattle.zmo_module.specs.Modules.{ModuleStatement}
+use Rattle.zmo_object.specs.Modules.{ModuleStatement}
 use Rattle.program_map.specs.declared.kind.Kind.{Kind}
 use Rattle.program_map.specs.Private.Telling.{is_space_statement, told}
 

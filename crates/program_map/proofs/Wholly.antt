@@ -3,7 +3,7 @@ use Rattle.std.proofs.Common.{◌≡◌, ◌+◌, ℕ, List, Option, arith}
 use Rattle.std.specs.Prelude.{All}
 use Rattle.common.specs.declared.limits.TheConstants.{FIRST_PLACE}
 use Rattle.relax.specs.Choice.{Choice, total}
-use Rattle.zmo_module.specs.Modules.{Module}
+use Rattle.zmo_object.specs.Modules.{Module}
 use Rattle.zlink.specs.File.Objects.{placed_shape}
 use Rattle.zlink.specs.File.Places.{ArePlaces}
 use Rattle.zlink.specs.Program.Whole.{program}

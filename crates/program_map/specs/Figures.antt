@@ -1,8 +1,8 @@
 -- How many bytes and jumps the statements of a module have.
 use Rattle.std.specs.Prelude.{◌≤◌, ◌<◌, ℕ, ◌+◌, ◌-◌, ◌==◌, ◌&&◌, Bool, true, false, List, Option, Some, None, count_by, filter, length, map, slice_index}
 use Rattle.std.specs.List.{enumerate_from, slice_index_or, sum_by}
-use Rattle.zmo_module.specs.Modules as object
-use Rattle.zmo_module.specs.Modules.{ModuleStatement}
+use Rattle.zmo_object.specs.Modules as object
+use Rattle.zmo_object.specs.Modules.{ModuleStatement}
 use Rattle.program_map.specs.declared.figures.Figures.{Figures}
 use Rattle.program_map.specs.declared.kind.Kind.{Kind}
 

@@ -1,7 +1,7 @@
 -- What the statements of a program are: what its sources say.
 use Rattle.std.specs.Prelude.{List, map}
-use Rattle.asm_statements.specs.Program.Statement as statement
-use Rattle.asm_statements.specs.Program.Statement.{Statement}
+use Rattle.asm_module.specs.Program.Statement as statement
+use Rattle.asm_module.specs.Program.Statement.{Statement}
 use Rattle.program_map.specs.declared.kind.Kind.{Kind}
 
 -- An instruction is code, whether or not it is a jump; DB and DW are data; DS is space.

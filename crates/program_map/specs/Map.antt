@@ -2,7 +2,7 @@
 use Rattle.std.specs.Prelude.{ℕ, List, Option, drop, is_some, length, map, slice_index}
 use Rattle.std.specs.List.{sum_by}
 use Rattle.std.specs.Option.{option_map}
-use Rattle.zmo_module.specs.Modules.{Label, Module}
+use Rattle.zmo_object.specs.Modules.{Label, Module}
 use Rattle.zlink.specs.Program.Laws.{statement_count}
 use Rattle.zlink.specs.Program.Parts.{ModulePart, label_at, parts}
 use Rattle.program_map.specs.declared.figures.Figures.{Figures}

@@ -4,7 +4,7 @@ use Rattle.common.specs.declared.limits.TheConstants.{FIRST_PLACE}
 use Rattle.zlink.specs.declared.building.Built.{Built}
 use Rattle.zlink.specs.declared.source.Source.{Source}
 use Rattle.zlink.specs.Sources.{Assembly, AreAssembled, modules_of, program_of}
-use Rattle.zmo_module.specs.Modules.{module_of}
+use Rattle.zmo_object.specs.Modules.{module_of}
 use Rattle.program_map.specs.Kinds.{kinds}
 use Rattle.program_map.specs.Map.{program_map}
 use Rattle.program_map.specs.Mapped.{MappedProgram}

@@ -1,13 +1,13 @@
 //! Counts the bytes and the jumps of a module.
 
 ghost use Rattle.std.specs.Prelude.{◌≡◌, ◌≤◌, ◌<◌, ◌+◌, ◌-◌, ◌==◌, ◌&&◌, ◌^◌, if◌then◌else◌, length, map, slice_index};
-ghost use Rattle.zmo_module.specs.Modules.{statement_of};
+ghost use Rattle.zmo_object.specs.Modules.{statement_of};
 ghost use Rattle.program_map.specs.Figures.{Ascend, CountedStatement, all_counted, is_code_kind, is_data_kind, is_relaxable_statement, is_space_kind, kind_at};
 ghost use Rattle.program_map.specs.Figures as spec;
 ghost use Rattle.program_map.specs.Private.Adding.{added, seen_kinds};
 
 use crate::kind::Kind;
-use zmo_module::Statement;
+use zmo_object::Statement;
 
 /// How many bytes and relaxable jumps a module has.
 #[derive(Clone, Copy, Debug, PartialEq, Eq)]

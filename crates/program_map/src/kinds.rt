@@ -5,11 +5,11 @@ ghost use Rattle.std.specs.List.{slice_index_or};
 ghost use Rattle.asm_macro.specs.Expands.{IsExpanded};
 ghost use Rattle.asm_module.specs.Assembled.{Assembled, Assembles, IsStated};
 ghost use Rattle.asm_module.specs.Reads.Read.{taken};
-ghost use Rattle.asm_statements.specs.Program.Statement.{Statement as Stated};
+ghost use Rattle.asm_module.specs.Program.Statement.{Statement as Stated};
 ghost use Rattle.asm_text.specs.Lines.{Numbered};
 ghost use Rattle.asm_spell.specs.Line.{body_of, line_of};
 ghost use Rattle.asm_names.specs.Lines.{lines_of};
-ghost use Rattle.zmo_module.specs.Modules.{module_of, statement_of};
+ghost use Rattle.zmo_object.specs.Modules.{module_of, statement_of};
 ghost use Rattle.zlink.specs.Program.Laws.{statement_count};
 ghost use Rattle.zlink.specs.Sources.{Assembly, AreAssembled, modules_of, program_of};
 ghost use Rattle.program_map.specs.Kinds.{kinds as all_kinds};
@@ -21,7 +21,7 @@ use asm_module::{SourceLine, read_source};
 use asm_spell::{Body, Line};
 use std::alloc::{AllocError, Global};
 use zlink::Source;
-use zmo_module::{Module, Statement};
+use zmo_object::{Module, Statement};
 
 /// Answers what the statement of a word is, if it is not space.
 fn body_kind(body: &Body) -> Option<Kind>
@@ -106,7 +106,7 @@ pub(crate) fn told_sources()
 {
     asm_macro::laws::one_expansion();
     asm_module::laws::one_answer();
-    asm_statements::laws::pieces_at_places();
+    asm_module::laws::pieces_at_places();
 }
 
 /// Appends what the statements of a module are, given the text of its source.

@@ -2,7 +2,7 @@
 
 ghost use Rattle.std.specs.Prelude.{◌≡◌, ◌≤◌, ◌<◌, ◌+◌, ◌^◌, IfOk, drop, length, map, slice_index};
 ghost use Rattle.std.specs.Option.{option_map};
-ghost use Rattle.zmo_module.specs.Modules.{module_of};
+ghost use Rattle.zmo_object.specs.Modules.{module_of};
 ghost use Rattle.zlink.specs.Program.Laws.{statement_count};
 ghost use Rattle.zlink.specs.Program.Parts.{label_at};
 ghost use Rattle.program_map.specs.Figures.{Ascend};
@@ -16,7 +16,7 @@ use crate::kind::Kind;
 use crate::map::{ModuleMap, ProgramMap};
 use crate::naming::{PlacedName, by_address};
 use std::alloc::{AllocError, Global};
-use zmo_module::Module;
+use zmo_object::Module;
 
 /// Answers the address of a statement, or 0 if it has none.
 fn place_at(places: &[u32], statement: usize) -> u32

@@ -2,7 +2,7 @@
 
 ghost use Rattle.std.specs.Prelude.{◌≡◌, ◌≤◌, Bool, IfOk, List, None, Ok, map, vec_len};
 ghost use Rattle.common.specs.declared.limits.TheConstants.{LONGEST_PROGRAM};
-ghost use Rattle.zmo_module.specs.Modules.{module_of};
+ghost use Rattle.zmo_object.specs.Modules.{module_of};
 ghost use Rattle.zlink.specs.Built.{IsBuilt};
 ghost use Rattle.zlink.specs.Linked.{IsLinked};
 ghost use Rattle.program_map.specs.Map as spec;

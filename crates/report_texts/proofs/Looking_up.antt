@@ -16,12 +16,12 @@ any_map p f (x ∷ xs) = ap (λ b. p (f x) || b) (any_map p f xs)
 -- equal fields make one error
 same_is : (e other : FrontError) → is_same e other ≡ true → e ≡ other
 same_is e other same =
-    let parts = and_parts (e.line == other.line) (bytes_eq e.name other.name && bytes_eq e.about other.about) same in
-    let texts = and_parts (bytes_eq e.name other.name) (bytes_eq e.about other.about) parts.1 in
+    let parts = and_parts (e.line == other.line) (bytes_eq e.name other.name && bytes_eq e.text other.text) same in
+    let texts = and_parts (bytes_eq e.name other.name) (bytes_eq e.text other.text) parts.1 in
     let line : e.line ≡ other.line = eqb-true e.line other.line parts.0 in
     let name : e.name ≡ other.name = (bytes_eq-Decides e.name other.name).0 texts.0 in
-    let about : e.about ≡ other.about = (bytes_eq-Decides e.about other.about).0 texts.1 in
-    rw (line, name, about) refl
+    let text : e.text ≡ other.text = (bytes_eq-Decides e.text other.text).0 texts.1 in
+    rw (line, name, text) refl
 
 found_same : (q x : FrontError) (es : List FrontError) → list_any (is_same x) es ≡ true → list_any (is_same q) es ≡ (list_any (is_same q) es || is_same q x)
 found_same q x es there =

@@ -1,5 +1,11 @@
-pub mod Reports
+pub mod Behind
+pub mod Defines
+pub mod Front
+pub mod Lines
+pub mod Shared
+pub mod Faults
+pub mod Private
 pub mod Json
 pub mod Printed
 pub mod Repeats
-pub mod Private
+pub mod Reports

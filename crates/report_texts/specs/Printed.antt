@@ -6,7 +6,7 @@ use Rattle.report_texts.specs.declared.printing.Form.{Form}
 use Rattle.report_texts.specs.declared.printing.Form.TheVariants as form
 use Rattle.message_texts.specs.declared.parts.Note.{Note}
 use Rattle.message_texts.specs.declared.parts.Note.TheVariants as note
-use Rattle.shared_lines.specs.Front.{own_place, path_at}
+use Rattle.report_texts.specs.Front.{own_place, path_at}
 use Rattle.report_texts.specs.declared.report.Files.{Files}
 use Rattle.report_texts.specs.declared.report.Report.{Report}
 use Rattle.report_texts.specs.declared.report.Severity.{Severity}

@@ -1,2 +1,3 @@
 -- Only private contracts cite these definitions, so a reviewer may skip them.
+pub mod Steps
 pub mod Kept

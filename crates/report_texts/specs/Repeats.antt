@@ -1,15 +1,16 @@
 -- Which reports are of one error. The lines of the front are before each source, so an error that is written in one of them is in each source.
-use Rattle.std.specs.Prelude.{◌≡◌, ℕ, Bool, false, ◌==◌, ◌&&◌, List, [], ◌∷◌, ◌++◌, Option, None, Some, if◌then◌else◌, nat_le, nat_lt, string_bytes}
+use Rattle.std.specs.Prelude.{◌≡◌, ℕ, Bool, false, ◌==◌, ◌&&◌, List, [], ◌∷◌, ◌++◌, Option, None, Some, if◌then◌else◌, map, nat_le, nat_lt, string_bytes}
 use Rattle.std.specs.List.{list_any}
 use Rattle.std.specs.Str.{bytes_eq}
+use Rattle.std.specs.Char.{to_ascii_uppercase}
 use Rattle.report_texts.specs.declared.report.Report.{Report}
 use Rattle.report_texts.specs.declared.report.Where.{Where}
 
--- an error that is written in the front: its line, its name, and what it is about
+-- an error that is written in the front: its line, its name, and what is said of it, with all letters in upper case
 pub record FrontError : Type 0 where
   pub line : ℕ
   pub name : List ℕ
-  pub about : List ℕ
+  pub text : List ℕ
 
 -- a line of the front: one of the first `before` lines. Lines are counted from 1.
 abbrev pub is_front_line : ℕ → ℕ → Bool
@@ -18,15 +19,15 @@ is_front_line before line = nat_lt 0 line && nat_le line before
 abbrev pub error_at : ℕ → Report → Option Where → Option FrontError
 error_at before r None = None
 error_at before r (Some at) =
-    if is_front_line before at.written then Some (record { line = at.written; name = string_bytes r.name; about = r.about.items }) else None
+    if is_front_line before at.written then Some (record { line = at.written; name = string_bytes r.name; text = map to_ascii_uppercase (string_bytes r.text) }) else None
 
 -- this of an error that is written in a line of the front. Any other error repeats none.
 abbrev pub front_error : ℕ → Report → Option FrontError
 front_error before r = error_at before r r.at
 
--- two errors of the front are one error if they are written in the same line, have the same name, and are about the same
+-- two errors of the front are one error if they are written in the same line, have the same name, and the same is said of them
 abbrev pub is_same : FrontError → FrontError → Bool
-is_same e other = (e.line == other.line) && (bytes_eq e.name other.name && bytes_eq e.about other.about)
+is_same e other = (e.line == other.line) && (bytes_eq e.name other.name && bytes_eq e.text other.text)
 
 abbrev pub are_same : Option FrontError → Option FrontError → Bool
 are_same (Some e) (Some other) = is_same e other

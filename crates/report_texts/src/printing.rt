@@ -9,8 +9,8 @@ ghost use Rattle.report_texts.specs.Printed.{below, colored, caret_line, line_af
 
 use crate::json::put_json;
 use crate::report::{Files, Report, Severity, Where};
+use crate::{Located, locate, path_at};
 use message_texts::Note;
-use shared_lines::{Located, locate, path_at};
 use std::alloc::{AllocError, Global};
 
 /// The most reports that are printed, except as JSON.

@@ -18,8 +18,8 @@ struct Kept {
     line: u32,
     /// Its name.
     name: String,
-    /// What it is about.
-    about: Vec<u8>,
+    /// What is said of it, in upper case, since a name may be written either way.
+    text: String,
 }
 
 /// Answers this of a report, if it is written in one of the first `before` lines.
@@ -30,7 +30,7 @@ fn kept_of(alloc: Global, before: usize, report: &Report) -> Result<Option<Kept>
         Some(at) if 0 < at.written && at.written as usize <= before => Ok(Some(Kept {
             line: at.written,
             name: String::from_str(alloc, &report.name)?,
-            about: report.about.to_vec(alloc)?,
+            text: report.text.to_ascii_uppercase(alloc)?,
         })),
         _ => Ok(None),
     }

@@ -1,7 +1,7 @@
 //! Reports of errors and warnings.
 
+use crate::{Front, SourceFile};
 use message_texts::{Note, Place};
-use shared_lines::{Front, SourceFile};
 
 /// How grave a report is.
 #[derive(Clone, Copy, Debug, PartialEq, Eq)]
@@ -44,13 +44,11 @@ pub struct Report {
     pub severity: Severity,
     /// None if it is about the program as a whole.
     pub at: Option<Where>,
-    /// What is wrong. Empty in an error that is only counted: the texts of those after the hundredth are not made, unless all are printed.
+    /// What is wrong. Empty in an error that is only counted: the texts of those after the hundredth are not made, unless all are printed or the
+    /// error is written in the front.
     pub text: String,
     /// The name of the error, as a refusal prints it. Empty for a warning.
     pub name: String,
-    /// What an error of a source is about: a name, in upper case; or if it is about none, its line with the arguments of the calls. Empty in other
-    /// reports.
-    pub about: Vec<u8>,
     /// What to write instead, and what else belongs to the error.
     pub notes: Vec<Note>,
 }

@@ -7,8 +7,8 @@ use Rattle.asm_macro.specs.Texts.{source_lines}
 use Rattle.asm_names.specs.declared.fault.NameFault.{NameFault}
 use Rattle.asm_names.specs.Faults.{IsNamed, first_name_fault}
 use Rattle.asm_names.specs.Lines.{lines_of}
-use Rattle.asm_statements.specs.declared.outlining.Outline.{Outline}
-use Rattle.asm_statements.specs.Outlines.{IsOutline}
+use Rattle.asm_module.specs.declared.statements.outlining.Outline.{Outline}
+use Rattle.asm_module.specs.Outlines.{IsOutline}
 use Rattle.asm_module.specs.Whys.{macro_why}
 use Rattle.asm_module.specs.declared.fault.Why.{Why}
 use Rattle.source_errors.specs.Counted.{counted_after, early_after, takens}

@@ -11,9 +11,9 @@ use Rattle.asm_names.specs.Layout.{layout_of}
 use Rattle.asm_names.specs.Lines.{Taken, lines_of, taken_of}
 use Rattle.asm_names.specs.Meanings.{equ_line_fault, name_meanings}
 use Rattle.asm_names.specs.Names.{Names, names}
-use Rattle.asm_statements.specs.declared.outlining.Outline.{Outline}
-use Rattle.asm_statements.specs.Module.Stated.{statement_fault, table_at_line}
-use Rattle.asm_statements.specs.Outlines.{IsOutline, circle_of}
+use Rattle.asm_module.specs.declared.statements.outlining.Outline.{Outline}
+use Rattle.asm_module.specs.Module.Stated.{statement_fault, table_at_line}
+use Rattle.asm_module.specs.Outlines.{IsOutline, circle_of}
 use Rattle.asm_module.specs.Whys.{equ_why, state_why}
 use Rattle.source_errors.specs.Counted.{Counted, takens}
 use Rattle.source_errors.specs.Findings.{Finding}

@@ -4,9 +4,9 @@ use Rattle.std.specs.Option.{option_map, option_to_list}
 use Rattle.std.specs.Prelude.{is_ok}
 use Rattle.std.proofs.lemmas.List.Elements.{All-cons, All-nil, All-append}
 use Rattle.std.proofs.lemmas.List.{length-append, map-append}
-use Rattle.asm_scan.specs.declared.fault.ScanFault.{ScanFault}
-use Rattle.asm_scan.specs.Scanned.{scanned}
-use Rattle.asm_scan.specs.Tokens.{Lexeme}
+use Rattle.asm_line.specs.declared.fault.ScanFault.{ScanFault}
+use Rattle.asm_line.specs.Scanned.{scanned}
+use Rattle.asm_line.specs.Tokens.{Lexeme}
 use Rattle.asm_spell.specs.declared.fault.StmtFault.{StmtFault}
 use Rattle.asm_spell.specs.Line.{Line}
 use Rattle.asm_spell.specs.Spelling.{spelled}
@@ -14,7 +14,7 @@ use Rattle.asm_text.specs.Lines.{Numbered}
 use Rattle.asm_names.specs.Faults.{first}
 use Rattle.asm_names.specs.Lines.{Taken}
 use Rattle.asm_names.specs.Names.{defines, has_clash, names}
-use Rattle.asm_statements.specs.Program.Spelled.{IsLineOfText}
+use Rattle.asm_module.specs.Program.Spelled.{IsLineOfText}
 use Rattle.asm_module.specs.declared.line_fault.LineFault.{LineFault}
 use Rattle.asm_module.specs.Reads.Read.{read_line, scanned_by, spelled_by}
 use Rattle.source_errors.specs.Counted.{Counted, after_colon, lines_counted, counted_after, counts, counts_as, counts_by, meant_as, takens}

@@ -5,8 +5,8 @@ use Rattle.std.specs.Option.{option_map, option_to_list}
 use Rattle.std.specs.Str.{str_eq_ignore_ascii_case}
 use Rattle.common.specs.Words.{upper, is_reserved}
 use Rattle.asm_line.specs.Forms.{Head, Equ, Word}
-use Rattle.asm_line.specs.Tokens.{is_name}
-use Rattle.asm_scan.specs.Tokens.{Lexeme}
+use Rattle.asm_line.specs.Single.{is_name}
+use Rattle.asm_line.specs.Tokens.{Lexeme}
 use Rattle.asm_text.specs.Lines.{Numbered, form_of}
 use Rattle.asm_spell.specs.Line.{Line}
 use Rattle.asm_names.specs.Faults.{first}

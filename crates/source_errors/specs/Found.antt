@@ -3,9 +3,9 @@ use Rattle.std.specs.Prelude.{◌≡◌, ◌≢◌, ℕ, zero, suc, ◌-◌, ◌
 use Rattle.std.specs.List.{filter_map, flat_map, list_any}
 use Rattle.std.specs.Option.{option_map}
 use Rattle.std.specs.Str.{bytes_eq}
-use Rattle.asm_scan.specs.declared.fault.ScanFault.{ScanFault}
-use Rattle.asm_scan.specs.Scanned.{scanned}
-use Rattle.asm_scan.specs.Tokens.{Lexeme}
+use Rattle.asm_line.specs.declared.fault.ScanFault.{ScanFault}
+use Rattle.asm_line.specs.Scanned.{scanned}
+use Rattle.asm_line.specs.Tokens.{Lexeme}
 use Rattle.asm_macro.specs.declared.fault.MacroFault.{MacroFault}
 use Rattle.asm_macro.specs.Expands.{IsExpanded}
 use Rattle.asm_macro.specs.Faults.{fault_of_scan}
@@ -13,8 +13,8 @@ use Rattle.asm_macro.specs.Texts.{numbered, source_lines}
 use Rattle.asm_text.specs.Lines.{Numbered}
 use Rattle.asm_names.specs.Faults.{first_name_fault}
 use Rattle.asm_names.specs.declared.fault.NameFault.{NameFault}
-use Rattle.asm_statements.specs.declared.outlining.Outline.{Outline}
-use Rattle.asm_statements.specs.Outlines.{IsOutline}
+use Rattle.asm_module.specs.declared.statements.outlining.Outline.{Outline}
+use Rattle.asm_module.specs.Outlines.{IsOutline}
 use Rattle.asm_module.specs.Whys.{macro_why, name_why}
 use Rattle.asm_module.specs.declared.fault.Why.{Why}
 use Rattle.source_errors.specs.Counted.{counted_after, early_after, defined_name_alone, takens}

@@ -11,10 +11,10 @@ use Rattle.asm_names.specs.Layout.{layout_of}
 use Rattle.asm_names.specs.Lines.{Taken}
 use Rattle.asm_names.specs.Meanings.{equ_line_fault, name_meanings}
 use Rattle.asm_names.specs.Names.{Names, kind_of_name, names}
-use Rattle.asm_statements.specs.declared.outlining.Outline.{Outline}
-use Rattle.asm_statements.specs.Module.Faults.{is_label, passed_on, used}
-use Rattle.asm_statements.specs.Module.Stated.{statement_fault, table_at_line}
-use Rattle.asm_statements.specs.Outlines.{circle_of}
+use Rattle.asm_module.specs.declared.statements.outlining.Outline.{Outline}
+use Rattle.asm_module.specs.Module.Faults.{is_label, passed_on, used}
+use Rattle.asm_module.specs.Module.Stated.{statement_fault, table_at_line}
+use Rattle.asm_module.specs.Outlines.{circle_of}
 use Rattle.asm_module.specs.Whys.{equ_why, state_why}
 use Rattle.asm_module.specs.declared.fault.Why.{Why}
 use Rattle.source_errors.specs.Counted.{Counted, takens}

@@ -8,9 +8,9 @@ ghost use Rattle.asm_names.specs.declared.equ_fault.EquFault.{EquFault};
 ghost use Rattle.asm_names.specs.Faults.{first};
 ghost use Rattle.asm_names.specs.Lines.{lines_of};
 ghost use Rattle.asm_names.specs.Names.{kind_of_name, names};
-ghost use Rattle.asm_statements.specs.Module.Faults.{is_label};
-ghost use Rattle.asm_statements.specs.Module.Stated.{statement_fault};
-ghost use Rattle.asm_statements.specs.Outlines.{IsOutline};
+ghost use Rattle.asm_module.specs.Module.Faults.{is_label};
+ghost use Rattle.asm_module.specs.Module.Stated.{statement_fault};
+ghost use Rattle.asm_module.specs.Outlines.{IsOutline};
 ghost use Rattle.asm_module.specs.Whys.{equ_why, state_why};
 ghost use Rattle.source_errors.specs.Findings.{finding_of, name_told};
 ghost use Rattle.source_errors.specs.Judged.{about, equ_name, late_errors, late_in};
@@ -20,10 +20,9 @@ use crate::counting::Origin;
 use crate::finding::Finding;
 use crate::using::{names_passed, names_used};
 use asm_expr::Names;
-use asm_module::Why;
+use asm_module::{Outline, StateFault, Why, judge};
 use asm_names::{EquFault, Kind, NameTable, SettledNames, SourceLine};
 use asm_spell::Line;
-use asm_statements::{Outline, StateFault, judge};
 use std::alloc::{AllocError, Global};
 
 /// Appends a copy of a name, if it is to be.
@@ -207,7 +206,7 @@ pub(crate) fn judge_lines(
     requires outlined { (grow : Bool) × IsOutline grow (lines_of lines.now) outline }
     ensures { OnOk result (map finding_of findings.new.items ≡ map finding_of findings.old.items ++ late_errors (counted_of origins.now lines.now) outline) }
 {
-    asm_statements::laws::all_found();
+    asm_module::laws::all_found();
     let Outline {
         turns: _,
         settled,

@@ -3,14 +3,13 @@
 ghost use Rattle.std.specs.Prelude.{◌≡◌, ◌++◌, ◌==◌, ◌||◌, ◌≤◌, IfOk, None, OnOk, Some, if◌then◌else◌, codes, is_ok, length, not};
 ghost use Rattle.std.specs.List.{prefix_len};
 ghost use Rattle.std.specs.Option.{option_map};
-ghost use Rattle.asm_scan.specs.Tokens.{lexeme, lexemes};
-ghost use Rattle.asm_line.specs.Views.{form_seen};
+ghost use Rattle.asm_line.specs.Tokens.{lexeme, lexemes};
+ghost use Rattle.asm_line.specs.FormViews.{form_seen};
 ghost use Rattle.asm_module.specs.Reads.Read.{read_line};
 ghost use Rattle.source_errors.specs.Counted.{after_colon, alone_by, defined_name_alone, extrn_of, free_name, is_extrn_word, meant_as, meant_by, with_colon};
 
 use crate::reading::read_line;
-use asm_line::{Form, Head, form_of, is_name};
-use asm_scan::{ScanFault, Token, tokens};
+use asm_line::{Form, Head, ScanFault, Token, form_of, is_name, tokens};
 use common::is_reserved;
 use std::alloc::{AllocError, Global};
 

@@ -1,13 +1,13 @@
 //! Reads one line.
 
 ghost use Rattle.std.specs.Prelude.{◌≡◌, IfOk};
-ghost use Rattle.asm_scan.specs.Tokens.{lexemes};
+ghost use Rattle.asm_line.specs.Tokens.{lexemes};
 ghost use Rattle.asm_spell.specs.Spelling.{spelled};
 ghost use Rattle.asm_module.specs.Reads.Read as lines;
 ghost use Rattle.source_errors.specs.Private.State.{read_of};
 
+use asm_line::{ScanFault, Token, tokens};
 use asm_module::{LineFault, StmtFault};
-use asm_scan::{ScanFault, Token, tokens};
 use asm_spell::{Line, statement};
 use std::alloc::{AllocError, Global};
 

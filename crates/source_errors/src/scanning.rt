@@ -11,9 +11,9 @@ ghost use Rattle.source_errors.specs.Found.{front, is_made, is_made_circle, is_o
 
 use crate::finding::Finding;
 use crate::mending::defined_name_alone;
+use asm_line::{ScanFault, tokens};
 use asm_macro::{ExpandedLine, MacroFault, source_part};
 use asm_module::Why;
-use asm_scan::{ScanFault, tokens};
 use asm_text::Lines;
 use std::alloc::{AllocError, Global};
 

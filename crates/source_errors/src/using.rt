@@ -6,7 +6,7 @@ ghost use Rattle.std.specs.Option.{option_map, option_to_list};
 ghost use Rattle.asm_parse.specs.Source.{source_item};
 ghost use Rattle.asm_spell.specs.Line.{body_of, line_of, listed_names, value_of};
 ghost use Rattle.asm_names.specs.Circles.{name_in, names_in};
-ghost use Rattle.asm_statements.specs.Module.Faults.{passed_on, used, value_names};
+ghost use Rattle.asm_module.specs.Module.Faults.{passed_on, used, value_names};
 ghost use Rattle.source_errors.specs.Judged.{line_passes, line_used};
 
 use asm_expr::{Item, Term, TermView, Tree};

@@ -1,7 +1,7 @@
 //! Rows that expand a source, as a whole or line by line.
 
+use asm_line::Token;
 use asm_macro::{Expanded, Expander, Line, MacroFault, expand};
-use asm_scan::Token;
 use row_text::Row;
 
 fn show_line(row: &mut Row, number: u32, text: &[u8]) {

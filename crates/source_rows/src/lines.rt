@@ -1,8 +1,8 @@
 //! Reads the lines of a row, and the layout in its columns.
 
 use asm_expr::Statement;
+use asm_line::tokens;
 use asm_names::{Layout, SourceLine};
-use asm_scan::tokens;
 use asm_spell::{Line, statement};
 use row_text::Row;
 use std::alloc::Global;

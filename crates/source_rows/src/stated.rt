@@ -1,8 +1,8 @@
 //! Rows about the statements of a source.
 
 use crate::lines::{layout_of, lines_of};
+use asm_module::{StateFault, Stated, Statement, laws, state_lines};
 use asm_names::{Layout, names_of, settle_names, turns_of};
-use asm_statements::{StateFault, Stated, Statement, laws, state_lines};
 use common::MOST_STATEMENTS;
 use row_text::Row;
 use std::alloc::Global;

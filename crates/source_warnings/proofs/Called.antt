@@ -4,11 +4,11 @@ use Rattle.std.specs.Bool.{◌==◌}
 use Rattle.std.specs.Str.{bytes_eq}
 use Rattle.std.proofs.Math.Path.{fun_ext}
 use Rattle.std.proofs.lemmas.List.Elements.{filter_agree}
-use Rattle.asm_scan.specs.Tokens.{Lexeme}
+use Rattle.asm_line.specs.Tokens.{Lexeme}
 use Rattle.asm_line.specs.Commas.{open_behind}
-use Rattle.asm_line.specs.Tokens.{is_comma}
-use Rattle.asm_replace.specs.Arguments.{arguments, arguments_from, text_with_token}
-use Rattle.asm_replace.specs.Pieces.{after_first_token, behind_all, gap}
+use Rattle.asm_line.specs.Single.{is_comma}
+use Rattle.asm_line.specs.Replacing.Arguments.{arguments, arguments_from, text_with_token}
+use Rattle.asm_line.specs.Replacing.Pieces.{after_first_token, behind_all, gap}
 use Rattle.asm_text.specs.Calls.{arguments_in}
 use Rattle.asm_text.specs.Lines.{Numbered, form_of}
 use Rattle.source_warnings.specs.Calls.{calls_after, expansion_warnings, line_numbered, word_says}

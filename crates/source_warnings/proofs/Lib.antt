@@ -1,5 +1,8 @@
+pub mod Distances
+pub mod Nearest
+pub mod One_more
 mod Agreeing
-mod Steps
-mod Lined
 mod Called
+mod Lined
 mod Printed
+mod Steps

@@ -1,8 +1,9 @@
-pub mod Noted
-pub mod Mentions
-pub mod Warnings
+pub mod Jumps
+pub mod Private
+pub mod Calls
 pub mod Found
 pub mod Macros
-pub mod Calls
+pub mod Mentions
+pub mod Noted
 pub mod Texts
-pub mod Private
+pub mod Warnings

@@ -3,7 +3,7 @@ use Rattle.std.specs.Prelude.{ℕ, ◌==◌, not, Bool, false, List, [], ◌∷�
 use Rattle.std.specs.List.{filter, flat_map}
 use Rattle.std.specs.Option.{option_map, option_map_or, option_to_list}
 use Rattle.common.specs.Words.{upper}
-use Rattle.asm_scan.specs.Tokens.{Lexeme}
+use Rattle.asm_line.specs.Tokens.{Lexeme}
 use Rattle.asm_line.specs.Forms.{Head, form}
 use Rattle.asm_line.specs.Forms as line
 use Rattle.asm_line.specs.Lists.{name_list}

@@ -3,10 +3,10 @@ use Rattle.std.specs.Prelude.{◌||◌, ℕ, Bool, false, List, [], Option, Some
 use Rattle.std.specs.List.{filter_map, flat_map}
 use Rattle.std.specs.Str.{str_eq_ignore_ascii_case}
 use Rattle.common.specs.Words.{upper}
-use Rattle.asm_scan.specs.Tokens.{Lexeme}
+use Rattle.asm_line.specs.Tokens.{Lexeme}
 use Rattle.asm_line.specs.Forms.{Form, Head}
 use Rattle.asm_line.specs.Forms as line
-use Rattle.asm_line.specs.Tokens.{is_name}
+use Rattle.asm_line.specs.Single.{is_name}
 use Rattle.asm_text.specs.Lines.{Numbered, form_of}
 use Rattle.asm_macro.specs.Texts.{numbered, source_lines}
 use Rattle.source_warnings.specs.Noted.{Noted, noted_on}

@@ -1,7 +1,7 @@
 //! Finds calls of macros with too many or too few arguments.
 
 ghost use Rattle.std.specs.Prelude.{◌≡◌, ◌++◌, IfOk, OnOk, map};
-ghost use Rattle.asm_scan.specs.Tokens.{lexemes};
+ghost use Rattle.asm_line.specs.Tokens.{lexemes};
 ghost use Rattle.asm_text.specs.Lines.{form_of, heard};
 ghost use Rattle.asm_macro.specs.Views.{lines_seen};
 ghost use Rattle.source_warnings.specs.Calls.{AreCallWarnings, all_calls, call_says, call_warnings, calls_after, counts_say, expansion_warnings};
@@ -15,11 +15,9 @@ use crate::found::{is_own, refused, stopped};
 use crate::macros::{called_in, definitions_in, later_in};
 use crate::reading::heard;
 use crate::warning::{Kind, SourceWarning};
-use asm_line::{form_of, names};
+use asm_line::{Token, arguments, form_of, names};
 use asm_macro::{ExpandedLine, expand, source_part};
 use asm_module::assemble;
-use asm_replace::arguments;
-use asm_scan::Token;
 use asm_text::Lines;
 use common::NameKey;
 use std::alloc::{AllocError, Global};

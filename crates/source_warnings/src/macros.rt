@@ -3,7 +3,7 @@
 ghost use Rattle.std.specs.Prelude.{◌≡◌, ◌<◌, ◌^◌, ◌++◌, IfOk, OnOk, length};
 ghost use Rattle.std.specs.List.{flat_map};
 ghost use Rattle.std.specs.Option.{option_map};
-ghost use Rattle.asm_line.specs.Views.{head_seen};
+ghost use Rattle.asm_line.specs.FormViews.{head_seen};
 ghost use Rattle.asm_macro.specs.Texts.{numbered};
 ghost use Rattle.asm_text.specs.Lines.{form_of};
 ghost use Rattle.source_warnings.specs.Macros.{called_macro, macro_defined, line_defines, line_defines_again};

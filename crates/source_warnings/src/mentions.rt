@@ -3,8 +3,8 @@
 ghost use Rattle.std.specs.Prelude.{◌≡◌, ◌<◌, ◌^◌, ◌++◌, ◌∷◌, [], List, ℕ, OnOk, IfOk, length};
 ghost use Rattle.std.specs.List.{filter_map, flat_map};
 ghost use Rattle.std.specs.Option.{option_to_list};
-ghost use Rattle.asm_scan.specs.Tokens.{lexeme, lexemes};
-ghost use Rattle.asm_line.specs.Views.{form_seen, head_seen};
+ghost use Rattle.asm_line.specs.Tokens.{lexeme, lexemes};
+ghost use Rattle.asm_line.specs.FormViews.{form_seen, head_seen};
 ghost use Rattle.asm_macro.specs.Texts.{source_lines, numbered};
 ghost use Rattle.source_warnings.specs.Mentions.{is_extrn, line_mentions, mentioned_by, mentions, name_of_token};
 ghost use Rattle.source_warnings.specs.Noted.{noted_on};
@@ -12,8 +12,7 @@ ghost use Rattle.source_warnings.specs.Private.Known.{Agrees};
 
 use crate::first_lines::FirstLines;
 use crate::reading::heard;
-use asm_line::{Form, Head, form_of, is_name};
-use asm_scan::Token;
+use asm_line::{Form, Head, Token, form_of, is_name};
 use asm_text::Lines;
 use common::NameKey;
 use std::alloc::{AllocError, Global};

@@ -2,14 +2,14 @@
 
 ghost use Rattle.std.specs.Prelude.{◌≡◌, IfOk};
 ghost use Rattle.std.specs.Option.{option_map};
-ghost use Rattle.asm_scan.specs.Tokens.{lexemes};
+ghost use Rattle.asm_line.specs.Tokens.{lexemes};
 ghost use Rattle.asm_text.specs.Lines.{heard};
 ghost use Rattle.asm_spell.specs.Line.{line_of};
 ghost use Rattle.asm_module.specs.Reads.Read as lines;
 ghost use Rattle.asm_spell.specs.Spelling.{spelled};
 ghost use Rattle.source_warnings.specs.Warnings.{line_read, parsed_line};
 
-use asm_scan::{ScanFault, Token, tokens};
+use asm_line::{ScanFault, Token, tokens};
 use asm_spell::{Line, StmtFault, statement};
 use std::alloc::{AllocError, Global};
 

@@ -1,8 +1,7 @@
 //! The word that is meant by one that is not known, or that does not take its operands.
 
 use crate::near::differ_little;
-use asm_line::{BlockWord, Head, form_of, is_word};
-use asm_scan::{Kind, Token};
+use asm_line::{BlockWord, Head, Kind, Token, form_of, is_word};
 use error_lines::{Case, do_build, is_expression};
 use message_texts::joined;
 use std::alloc::{AllocError, Global};

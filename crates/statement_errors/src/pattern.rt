@@ -1,6 +1,6 @@
 //! Statements that are made from the operands of an instruction.
 
-use asm_scan::{Kind, Mark};
+use asm_line::{Kind, Mark};
 use bstr::ByteSlice;
 use error_lines::{Case, builds};
 use message_texts::{Operand, form_written, halves, joined, shown};

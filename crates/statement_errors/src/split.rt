@@ -1,6 +1,6 @@
 //! Words that are two, without the blank between them, and names that are one, with `-` in them.
 
-use asm_scan::{Kind, Mark, Token};
+use asm_line::{Kind, Mark, Token};
 use bstr::ByteSlice;
 use error_lines::{Case, do_build, statement_text};
 use message_texts::{is_jump, joined, name_in, shown, tokens_of};

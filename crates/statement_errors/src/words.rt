@@ -2,8 +2,7 @@
 
 use crate::meant::meant;
 use crate::split::{with_space, with_underscore, without_blank};
-use asm_line::Head;
-use asm_scan::{Kind, Mark, Token};
+use asm_line::{Head, Kind, Mark, Token, is_comma};
 use asm_spell::{StmtFault, statement};
 use common::is_reserved;
 use error_lines::{Case, do_build, is_remark, local_parameter, may_build, operands};
@@ -281,6 +280,19 @@ fn is_label_here(case: &Case<'_>) -> Result<bool, AllocError> {
     Ok(case.form.rest.is_empty() && needs_operands(&word))
 }
 
+/// Whether the token after the line's word is an operand: a name that another assembler has as a directive, but only with operands, which do
+/// not follow here.
+fn is_operand_after(case: &Case<'_>) -> Result<bool, AllocError> {
+    let Some(name) = case.form.rest.first() else {
+        return Ok(false);
+    };
+    let is_alone = match case.form.rest.get(1) {
+        Some(next) => is_comma(next),
+        None => true,
+    };
+    Ok(is_alone && needs_operands(&upper_text(case.alloc, name.text)?))
+}
+
 /// The message about `NAME PROC`; None if the line is none.
 fn procedure(case: &Case<'_>) -> Result<Option<Draft>, AllocError> {
     let alloc = case.alloc;
@@ -344,8 +356,10 @@ pub fn unknown(case: &Case<'_>) -> Result<Draft, AllocError> {
     if case.form.label.is_none() && is_line(case.alloc, case.form.rest)? {
         return nowhere(case);
     }
-    if let Some(draft) = foreign(case, case.rest_at())? {
-        return Ok(draft);
+    if !is_operand_after(case)? {
+        if let Some(draft) = foreign(case, case.rest_at())? {
+            return Ok(draft);
+        }
     }
     match defined_later(case, word, not_known(case)?)? {
         Some(draft) => Ok(draft),

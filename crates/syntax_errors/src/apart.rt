@@ -1,7 +1,6 @@
 //! Words and numbers one after the other, with no comma or operator between them.
 
-use asm_line::{Head, is_word};
-use asm_scan::{Kind, Mark, Token};
+use asm_line::{Head, Kind, Mark, Token, is_word};
 use bstr::ByteSlice;
 use error_lines::{
     COMMA, Case, begin_new, builds, do_build, is_remark, mended, operands, statement_text,

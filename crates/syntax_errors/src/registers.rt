@@ -1,7 +1,6 @@
 //! Registers, conditions and operators where an expression has to be.
 
-use asm_line::{Head, is_word};
-use asm_scan::{Kind, Mark, Token};
+use asm_line::{Head, Kind, Mark, Token, is_word};
 use error_lines::{CLOSE, Case, HERE, OPEN, PLUS, mended, operands};
 use message_texts::{
     Draft, Operand, form_written, is_jump, joined, name_in, name_text, reserved_text, shown,

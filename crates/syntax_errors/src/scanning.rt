@@ -1,7 +1,6 @@
 //! Bytes, numbers and strings that are none.
 
-use asm_line::{Head, form_of, is_comma};
-use asm_scan::{Kind, LONGEST_LINE, ScanFault, continues_name};
+use asm_line::{Head, Kind, LONGEST_LINE, ScanFault, continues_name, form_of, is_comma};
 use bstr::ByteSlice;
 use common::is_reserved;
 use error_lines::{Case, builds};

@@ -3,8 +3,7 @@
 use crate::apart::not_apart;
 use crate::registers::{current_address, index_first, operand_with, operator_here, register_here};
 use crate::scanning::{hexadecimal, without_letter};
-use asm_line::{BlockWord, Head};
-use asm_scan::{Kind, Mark, Token};
+use asm_line::{BlockWord, Head, Kind, Mark, Token};
 use asm_spell::{Body, Line, StmtFault, statement};
 use bstr::ByteSlice;
 use common::is_reserved;

@@ -4,8 +4,8 @@ use crate::machine::{Keyboard, console_of, good_console};
 use crate::memory::put;
 use crate::writers::Scripted;
 use cpm_console::{Console, ConsoleError, StreamConsole, Terminal};
+use host::{MemorySink, WatchedSink};
 use row_text::Row;
-use streams::{MemorySink, WatchedSink};
 use z80_cpu::Memory;
 
 /// A terminal with the cursor at a column.

@@ -1,9 +1,9 @@
 //! Reads what a row runs, and runs it.
 
 use disassembler::read_labels;
+use host::MemorySink;
 use row_text::Row;
 use std::alloc::Global;
-use streams::MemorySink;
 use z80dev_run::{Labels, TracedRan, Wish, ready};
 
 /// A program to run, the limit of its steps, and its labels file.

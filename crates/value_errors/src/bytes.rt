@@ -2,10 +2,9 @@
 
 use crate::values::{first_address, on_part, part_text};
 use asm_expr::parse;
-use asm_line::{Head, form_of, is_name, is_word};
+use asm_line::{Head, Kind, Mark, Token, form_of, is_name, is_word};
 use asm_names::{Kind as NameKind, SourceLine};
 use asm_parse::{Binary, ExprFault, Item, TermView, Tree};
-use asm_scan::{Kind, Mark, Token};
 use asm_spell::{Body, Line};
 use error_lines::{Case, operands, statement_text};
 use message_texts::{Draft, Operand, form_written, joined, name_text, tokens_of};

@@ -1,8 +1,7 @@
 //! Divisions.
 
 use crate::values::FIXED;
-use asm_line::is_word;
-use asm_scan::{Kind, Mark, Token};
+use asm_line::{Kind, Mark, Token, is_word};
 use common::is_reserved;
 use error_lines::{Case, Worth, judge};
 use message_texts::{Draft, Operand, joined, left_open};

@@ -2,8 +2,8 @@
 
 use crate::dividing::is_in_divisor;
 use crate::values::expressions;
+use asm_line::{Kind, Token};
 use asm_parse::Tree;
-use asm_scan::{Kind, Token};
 use asm_spell::{Body, Line, StmtFault, statement};
 use error_lines::Case;
 use std::alloc::AllocError;

@@ -1,9 +1,8 @@
 //! Values that do not fit.
 
 use crate::bytes::as_operand;
-use asm_line::{Head, is_name};
+use asm_line::{Head, Kind, Mark, Token, is_name};
 use asm_parse::Tree;
-use asm_scan::{Kind, Mark, Token};
 use asm_spell::{Body, Line, StmtFault, Value, statement};
 use common::is_reserved;
 use error_lines::{
@@ -440,8 +439,14 @@ pub fn size_varies(case: &Case<'_>) -> Result<Draft, AllocError> {
         Some(part) => addresses_text(case, part.tokens)?,
         None => String::new(alloc),
     };
+    // A difference of addresses depends on them too, though no name in it is an address: `LEN` after `LEN EQU $-X`.
+    let which = if names.is_empty() {
+        names
+    } else {
+        format!(in alloc; " ({names})")?
+    };
     let text = format!(in alloc;
-        "the size of DS must be a constant: `{written}` depends on addresses ({names})"
+        "the size of DS must be a constant: `{written}` depends on addresses{which}"
     )?;
     on_part(case, part, text).help(String::from_str(
         alloc,

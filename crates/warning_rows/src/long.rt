@@ -1,11 +1,11 @@
 //! Prints the long jumps of programs.
 
 ghost use Rattle.std.specs.Prelude.{All, IfSome, map};
-ghost use Rattle.zmo_module.specs.Modules.{module_of};
-ghost use Rattle.zmo_module.specs.Rules.{IsModule};
+ghost use Rattle.zmo_object.specs.Modules.{module_of};
+ghost use Rattle.zmo_object.specs.Rules.{IsModule};
 
 use asm_module::{Module, assemble};
-use jump_reasons::{JoinFault, LongJump, LongJumps, find_long_jumps};
+use program_map::{JoinFault, LongJump, LongJumps, find_long_jumps};
 use row_text::Row;
 use std::alloc::Global;
 

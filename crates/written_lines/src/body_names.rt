@@ -1,6 +1,6 @@
 //! The names that the assembler makes for LOCAL, such as `??00001`, and the names that the macro's body has for them.
 
-use asm_scan::continues_name;
+use asm_line::continues_name;
 use common::NameKey;
 use indexmap::IndexMap;
 use std::alloc::{AllocError, Global};

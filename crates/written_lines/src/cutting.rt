@@ -1,7 +1,6 @@
 //! Cuts lines into tokens.
 
-use asm_line::{Head, form_of};
-use asm_scan::{ScanFault, Token, tokens};
+use asm_line::{Head, ScanFault, Token, form_of, tokens};
 use std::alloc::{AllocError, Global};
 
 /// The tokens of a line; none if it cannot be cut into tokens.

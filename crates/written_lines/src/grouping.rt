@@ -7,12 +7,21 @@ use crate::written::Trace;
 use asm_macro::ExpandedLine;
 use common::NameKey;
 use indexmap::IndexMap;
-use shared_lines::why_name;
+use report_texts::why_name;
 use source_errors::Finding;
 use std::alloc::{AllocError, Global};
 
 /// The most lines of further calls that a report names.
 pub const MOST_OTHERS: usize = 4;
+
+/// A further time that an error occurs.
+#[derive(Clone, Copy, Drop)]
+pub struct Again {
+    /// The number of its finding.
+    pub finding: usize,
+    /// Which line of the expansion that is in, if it is not in a line as it is written.
+    pub traced: Option<usize>,
+}
 
 /// An error as it is reported, once for all the times that it occurs.
 #[derive(Drop)]
@@ -27,6 +36,8 @@ pub struct Group {
     pub count: usize,
     /// The lines of the source in whose calls it occurs too.
     pub others: Vec<u32>,
+    /// The times that its line is assembled otherwise than the first time, with other arguments: what is said of these may differ.
+    pub differing: Vec<Again>,
 }
 
 /// Numbers by texts.
@@ -150,10 +161,13 @@ impl<'t> Grouping<'t> {
     fn add(
         &mut self,
         alloc: Global,
+        findings: &[Finding],
         number: usize,
-        finding: &Finding,
         is_written: bool,
     ) -> Result<(), AllocError> {
+        let Some(finding) = findings.get(number) else {
+            return Ok(());
+        };
         let called = called(alloc, finding, self.trace)?;
         let traced = if is_written {
             None
@@ -162,7 +176,11 @@ impl<'t> Grouping<'t> {
         };
         let own = self.group_key(alloc, finding, traced, is_written, &called)?;
         if let Some(group) = self.numbers.get(own.as_slice()).copied() {
-            return self.add_again(group, finding.number);
+            let again = Again {
+                finding: number,
+                traced,
+            };
+            return self.add_again(group, findings, again);
         }
         self.numbers.insert(own, self.groups.len())?;
         self.groups.push(Group {
@@ -171,15 +189,29 @@ impl<'t> Grouping<'t> {
             traced,
             count: 1,
             others: Vec::new(alloc),
+            differing: Vec::new(alloc),
         })?;
         Ok(())
     }
 
-    /// Counts an error once more that is reported by this line.
-    fn add_again(&mut self, group: usize, line: u32) -> Result<(), AllocError> {
+    /// Counts an error once more.
+    fn add_again(
+        &mut self,
+        group: usize,
+        findings: &[Finding],
+        again: Again,
+    ) -> Result<(), AllocError> {
         let Some(group) = self.groups.get_mut(group) else {
             return Ok(());
         };
+        let (Some(first), Some(found)) = (findings.get(group.finding), findings.get(again.finding))
+        else {
+            return Ok(());
+        };
+        if found.text != first.text {
+            group.differing.push(again)?;
+        }
+        let line = found.number;
         group.count = group.count.saturating_add(1);
         let last = group.others.last().copied().unwrap_or(group.reported);
         if line != last && group.others.len() <= MOST_OTHERS {
@@ -213,9 +245,9 @@ pub fn grouped(
         numbers: IndexMap::with_hasher(alloc, key),
         groups: Vec::new(alloc),
     };
-    for (number, finding) in findings.iter().enumerate() {
+    for number in 0..findings.len() {
         let is_written = is_written.get(number).copied().unwrap_or(true);
-        grouping.add(alloc, number, finding, is_written)?;
+        grouping.add(alloc, findings, number, is_written)?;
     }
     let mut groups = grouping.groups;
     groups.sort_by_key(|group| group.reported)?;

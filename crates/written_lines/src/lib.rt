@@ -12,7 +12,7 @@ mod written;
 
 pub use body_names::BodyNames;
 pub use cutting::{macro_in, tokens_of};
-pub use grouping::{Group, MOST_OTHERS, grouped};
+pub use grouping::{Again, Group, MOST_OTHERS, grouped};
 pub use placing::Site;
 pub use sources::{LineEnds, Sources, lines_of, mentioned};
 pub use statements::Expansions;

@@ -5,8 +5,7 @@
 //! replaces the name.
 
 use crate::cutting::{macro_in, tokens_of};
-use asm_line::{BlockWord, Head, form_of, is_name};
-use asm_scan::Token;
+use asm_line::{BlockWord, Head, Token, form_of, is_name};
 use asm_text::Lines;
 use common::{KeyMixer, NameKey};
 use indexmap::IndexMap;

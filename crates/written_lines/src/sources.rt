@@ -3,12 +3,11 @@
 ghost use Rattle.std.specs.Prelude.{◌≡◌, IfOk};
 
 use crate::cutting::tokens_of;
+use asm_line::Token;
 use asm_macro::source_part;
 use asm_module::Module;
-use asm_scan::Token;
 use message_texts::place_of_name;
-use report_texts::Where;
-use shared_lines::{Front, Located, SourceFile, locate, path_at};
+use report_texts::{Front, Located, SourceFile, Where, locate, path_at};
 use std::alloc::{AllocError, Global};
 
 /// Sources after a front.

@@ -1,10 +1,10 @@
--- Arithmetic on registers, and LD A,I and LD A,R. `z80_alu` defines the results and the flags of the operations.
+-- Arithmetic on registers, and LD A,I and LD A,R. The folder Alu defines the results and the flags of the operations.
 --
 -- Z80 CPU User Manual (Zilog UM0080), the arithmetic groups and "Rotate and Shift Group".
 use Rattle.std.specs.Prelude.{ℕ, false}
-use Rattle.z80_alu.specs.Bytes.{difference_of, subtract_flags, parity_flags, accumulator_after, operation_flags, adjusted, adjust_flags, complemented, complement_flags}
-use Rattle.z80_alu.specs.Words.{word_sum_of, add_word_flags, adc_word_flags, word_difference_of, sbc_word_flags}
-use Rattle.z80_alu.specs.Rotations.{rotated, rotate_accumulator_flags}
+use Rattle.z80_cpu.specs.Alu.Bytes.{difference_of, subtract_flags, parity_flags, accumulator_after, operation_flags, adjusted, adjust_flags, complemented, complement_flags}
+use Rattle.z80_cpu.specs.Alu.Words.{word_sum_of, add_word_flags, adc_word_flags, word_difference_of, sbc_word_flags}
+use Rattle.z80_cpu.specs.Alu.Rotations.{rotated, rotate_accumulator_flags}
 use Rattle.z80_cpu.specs.Types.{IndexRegister, RegisterPair, WordRegister, Addend, AluOperation, Rotation, Cpu}
 use Rattle.z80_cpu.specs.State.{with_main, with_flags, with_a_and_flags, up_by, down_by, hl, with_hl, index_value, with_index, pair_value, word_value, with_word, addend_value}
 

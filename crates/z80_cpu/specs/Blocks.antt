@@ -3,8 +3,8 @@
 -- Z80 CPU User Manual (Zilog UM0080), LDI to CPDR of "Exchange, Block Transfer, and Search Group", INI to OTDR of "Input
 -- and Output Group".
 use Rattle.std.specs.Prelude.{ℕ, Bool, true, false, not, ◌&&◌, if◌then◌else◌}
-use Rattle.z80_alu.specs.Flags.{is_zero}
-use Rattle.z80_alu.specs.Bytes.{difference_of, subtract_flags}
+use Rattle.z80_cpu.specs.Alu.Flags.{is_zero}
+use Rattle.z80_cpu.specs.Alu.Bytes.{difference_of, subtract_flags}
 use Rattle.z80_cpu.specs.Types.{BlockOperation, BlockStep, Flags, Cpu}
 use Rattle.z80_cpu.specs.State.{Machine, on_cpu, with_main, with_pc, byte_at, store_byte, up_by, down_by, one_less, bc, de, hl, with_bc, with_de, with_hl}
 

@@ -1,7 +1,7 @@
 -- Registers that are all 0.
 use Rattle.std.specs.Prelude.{false}
 use Rattle.z80_cpu.specs.Types.{Registers, Cpu, InterruptMode}
-use Rattle.z80_alu.specs.Flags.{flags_of}
+use Rattle.z80_cpu.specs.Alu.Flags.{flags_of}
 
 abbrev pub cleared_set : Registers
 cleared_set = record { a = 0; flags = flags_of 0; b = 0; c = 0; d = 0; e = 0; h = 0; l = 0 }

@@ -5,8 +5,8 @@
 -- byte, RETI is RET.
 use Rattle.std.specs.Prelude.{◌*◌, true, false, if◌then◌else◌}
 use Rattle.z80_instr.specs.Table.{octal_code}
-use Rattle.z80_alu.specs.Bytes.{sum_of, difference_of, parity_flags, increment_flags, decrement_flags, set_carry_flags, complement_carry_flags}
-use Rattle.z80_alu.specs.Rotations.{rotated, rotate_flags, rld_byte, rld_accumulator, rrd_byte, rrd_accumulator, bit_flags, set_bit, reset_bit}
+use Rattle.z80_cpu.specs.Alu.Bytes.{sum_of, difference_of, parity_flags, increment_flags, decrement_flags, set_carry_flags, complement_carry_flags}
+use Rattle.z80_cpu.specs.Alu.Rotations.{rotated, rotate_flags, rld_byte, rld_accumulator, rrd_byte, rrd_accumulator, bit_flags, set_bit, reset_bit}
 use Rattle.z80_cpu.specs.Types.{Rotation, Instr}
 use Rattle.z80_cpu.specs.State.{Machine, on_cpu, with_main, with_a, with_flags, with_a_and_flags, with_pc, down_by, displaced, byte_at, word_at, store_byte, store_word, register_value, with_register, hl, word_value, with_word, hl_or_index_value, with_hl_or_index, stack_operand_value, with_stack_operand}
 use Rattle.z80_cpu.specs.Operands.{address_of, pointer_address, operand_value, with_operand, condition_holds, short_condition_holds}

@@ -2,7 +2,7 @@
 --
 -- Z80 CPU User Manual (Zilog UM0080), "Jump Group".
 use Rattle.std.specs.Prelude.{ℕ, Bool, not, if◌then◌else◌, ℤ}
-use Rattle.z80_alu.specs.Flags.{is_zero}
+use Rattle.z80_cpu.specs.Alu.Flags.{is_zero}
 use Rattle.z80_cpu.specs.Types.{Cpu}
 use Rattle.z80_cpu.specs.State.{with_main, with_pc, one_less, displaced}
 

@@ -1,3 +1,4 @@
+pub mod Alu
 pub mod Types
 pub mod Cleared
 pub mod State

@@ -4,7 +4,7 @@
 -- Addresses are taken modulo 65,536.
 use Rattle.std.specs.Prelude.{ℕ, ◌+◌, ◌-◌, ◌*◌, ◌/◌, ◌%◌, List, ℤ, slice_index, slice_set}
 use Rattle.std.specs.Int.{w16, cast_unsigned}
-use Rattle.z80_alu.specs.Flags.{byte_of, flags_of}
+use Rattle.z80_cpu.specs.Alu.Flags.{byte_of, flags_of}
 use Rattle.z80_cpu.specs.Types.{Register, IndexRegister, RegisterPair, WordRegister, HlOrIndex, Addend, StackOperand, Flags, Registers, Cpu}
 
 pub record Machine : Type 0 where

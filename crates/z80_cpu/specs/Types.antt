@@ -18,6 +18,6 @@ pub use Rattle.z80_instr.specs.declared.InterruptMode.{InterruptMode}
 pub use Rattle.z80_instr.specs.declared.BlockOperation.{BlockOperation}
 pub use Rattle.z80_instr.specs.declared.BlockStep.{BlockStep}
 pub use Rattle.z80_instr.specs.declared.Instr.{Instr}
-pub use Rattle.z80_alu.specs.declared.flags.Flags.{Flags}
+pub use Rattle.z80_cpu.specs.declared.alu.flags.Flags.{Flags}
 pub use Rattle.z80_cpu.specs.declared.registers.Registers.{Registers}
 pub use Rattle.z80_cpu.specs.declared.registers.Cpu.{Cpu}

@@ -2,7 +2,7 @@
 ghost use Rattle.std.specs.Prelude.{◌≡◌};
 ghost use Rattle.z80_cpu.specs.Operands.{condition_holds, short_condition_holds};
 
-use z80_alu::Flags;
+use crate::Flags;
 use z80_instr::{Cond, ShortCond};
 
 #[inline(always)]

@@ -1,6 +1,6 @@
 //! The registers.
 
-use z80_alu::Flags;
+use crate::Flags;
 use z80_instr::{InterruptMode, Register};
 
 /// One of the two sets of registers. The low register of a pair comes first, as in a word of the host's memory.

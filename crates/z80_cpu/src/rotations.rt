@@ -7,7 +7,7 @@ ghost use Rattle.z80_cpu.specs.Arithmetic.{rotated_a};
 
 use crate::memory::Memory;
 use crate::registers::Cpu;
-use z80_alu::{reset_bit, set_bit};
+use crate::{reset_bit, set_bit};
 use z80_instr::{Octal, Operand, Rotation};
 
 impl Cpu {

@@ -4,8 +4,16 @@
 //! is a documented instruction: forms that the manual does not have cannot be written.
 #![tactic(auto)]
 
+mod code;
+mod encoding;
+pub mod laws;
+mod length;
 mod mnemonic;
 mod number;
+mod put;
+
+pub use encoding::encode;
+pub use length::size;
 
 /// An 8-bit register: the manual's r.
 #[derive(Clone, Copy, Debug, PartialEq, Eq)]

@@ -6,8 +6,7 @@ ghost use Rattle.z80_turns.specs.Types.{Instr, Operand, MemoryOperand};
 
 use crate::numbers::pass;
 use crate::outcome::Step;
-use z80_alu::{reset_bit, set_bit};
-use z80_cpu::{Cpu, Memory};
+use z80_cpu::{Cpu, Memory, reset_bit, set_bit};
 use z80_instr::{Octal, Register, Rotation};
 
 #[inline(always)]

@@ -7,8 +7,7 @@ ghost use Rattle.z80_turns.specs.Numbers.{third_signed};
 
 use crate::numbers::{pass, third_signed};
 use crate::outcome::Step;
-use z80_alu::{reset_bit, set_bit};
-use z80_cpu::{Cpu, Memory, displaced};
+use z80_cpu::{Cpu, Memory, displaced, reset_bit, set_bit};
 use z80_instr::{IndexRegister, Octal, Rotation};
 
 #[inline(always)]

@@ -6,7 +6,7 @@ use Rattle.common.specs.declared.limits.TheConstants.{LONGEST_TEXT}
 use Rattle.zlink.specs.declared.fault.LinkFault.TheVariants as link
 use Rattle.zlink.specs.declared.fault.BuildFault.{BuildFault}
 use Rattle.zlink.specs.declared.fault.BuildFault.TheVariants as build
-use Rattle.streams.specs.Stream.{Stream}
+use Rattle.host.specs.Streams.Stream.{Stream}
 use Rattle.z80dev.specs.declared.fault.Fault.{Fault}
 use Rattle.z80dev.specs.declared.fault.Fault.TheVariants as fault
 use Rattle.z80dev.specs.Main.{IsBuiltAsMain, IsFileOf, IsBuildRefused}

@@ -1,12 +1,12 @@
 -- How an end with an error is reported.
 use Rattle.std.proofs.Common.{◌≡◌, ℕ, ◌++◌, List, Result, Err, codes, subst}
-use Rattle.streams.specs.Stream.{Stream}
-use Rattle.streams.specs.Writing.{error_line}
+use Rattle.host.specs.Streams.Stream.{Stream}
+use Rattle.host.specs.Streams.Writing.{error_line}
 use Rattle.zlink.specs.declared.fault.LinkFault.TheVariants as link
 use Rattle.zlink.specs.declared.fault.BuildFault.TheVariants as build
-use Rattle.z80dev_finish.specs.declared.end.End.{End}
-use Rattle.z80dev_finish.specs.declared.end.End.TheVariants as end
-use Rattle.z80dev_finish.specs.End.{IsPut, Tells, TellsOf, end_status}
+use Rattle.host.specs.declared.end.End.{End}
+use Rattle.host.specs.declared.end.End.TheVariants as end
+use Rattle.host.specs.End.{IsPut, Tells, TellsOf, end_status}
 use Rattle.z80dev.specs.declared.fault.Fault.{Fault}
 use Rattle.z80dev.specs.declared.fault.Fault.TheVariants as fault
 use Rattle.z80dev.specs.Pipe.{PrintingEnds, said_at, status_at}

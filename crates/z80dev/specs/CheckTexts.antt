@@ -2,7 +2,7 @@
 use Rattle.std.specs.Prelude.{ℕ, List, codes}
 use Rattle.cert_check.specs.declared.fault.CheckFault.{CheckFault}
 use Rattle.cert_check.specs.declared.fault.CheckFault.TheVariants as check
-use Rattle.shared_lines.specs.Faults.Numbered.{name_with_number}
+use Rattle.report_texts.specs.Faults.Numbered.{name_with_number}
 
 abbrev pub check_text : CheckFault → List ℕ
 check_text (check.BadSizes line) = name_with_number (codes "BadSizes") line

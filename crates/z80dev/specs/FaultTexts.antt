@@ -1,6 +1,6 @@
 -- How errors of the one source are printed. Its name is MAIN.
 use Rattle.std.specs.Prelude.{ℕ, List, codes}
-use Rattle.shared_lines.specs.Faults.Refusals.{of_build, program_refusal_text}
+use Rattle.report_texts.specs.Faults.Refusals.{of_build, program_refusal_text}
 use Rattle.z80dev.specs.declared.fault.Fault.{Fault}
 use Rattle.z80dev.specs.declared.fault.Fault.TheVariants as fault
 

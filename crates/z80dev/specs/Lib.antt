@@ -1,7 +1,15 @@
-pub mod FaultTexts
+pub mod Causes
 pub mod CheckTexts
-pub mod Reading
+pub mod FaultTexts
+pub mod Grown
 pub mod Main
 pub mod Pipe
+pub mod Reading
+pub mod Turns
 pub mod Verdict
 pub mod Private
+pub mod Disks
+pub mod Making
+pub mod Outputs
+pub mod Products
+pub mod Values

@@ -1,8 +1,8 @@
 -- How printing the file of a source ends.
 use Rattle.std.specs.Prelude.{◌≡◌, ℕ, ◌<◌, ◌⊎◌, List, length, Option, None, Some, Result, Ok, Err}
 use Rattle.common.specs.declared.limits.TheConstants.{LONGEST_TEXT}
-use Rattle.streams.specs.Stream.{Stream}
-use Rattle.streams.specs.Writing.{PrintsAll, PutsFront}
+use Rattle.host.specs.Streams.Stream.{Stream}
+use Rattle.host.specs.Streams.Writing.{PrintsAll, PutsFront}
 use Rattle.z80dev.specs.declared.fault.Fault.{Fault}
 use Rattle.z80dev.specs.declared.fault.Fault.TheVariants as fault
 use Rattle.z80dev.specs.FaultTexts.{fault_text}

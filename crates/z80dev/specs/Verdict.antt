@@ -1,14 +1,14 @@
 -- What `check` prints for a sizes file and its certificate, and how it ends.
 use Rattle.std.specs.Prelude.{◌≡◌, ℕ, List, [], ◌∷◌, ◌++◌, Err, codes, decimal, string_bytes}
-use Rattle.certificate.specs.declared.cert.Verdict.{Verdict}
-use Rattle.certificate.specs.declared.cert.Verdict.TheVariants.{Best, Range, TooLarge}
-use Rattle.certificate.specs.Accepts.{Accepts}
+use Rattle.cert_check.specs.declared.cert.Verdict.{Verdict}
+use Rattle.cert_check.specs.declared.cert.Verdict.TheVariants.{Best, Range, TooLarge}
+use Rattle.cert_check.specs.Accepts.{Accepts}
 use Rattle.cert_check.specs.declared.fault.CheckFault.{CheckFault}
 use Rattle.cert_check.specs.Checks.{Checks}
-use Rattle.streams.specs.Stream.{Stream}
-use Rattle.streams.specs.Writing.{PrintsAll, PutsFront}
-use Rattle.z80dev_finish.specs.declared.end.End.{End}
-use Rattle.z80dev_finish.specs.declared.end.End.TheVariants as end
+use Rattle.host.specs.Streams.Stream.{Stream}
+use Rattle.host.specs.Streams.Writing.{PrintsAll, PutsFront}
+use Rattle.host.specs.declared.end.End.{End}
+use Rattle.host.specs.declared.end.End.TheVariants as end
 use Rattle.z80dev.specs.CheckTexts.{check_text}
 
 -- the line of a verdict

@@ -6,9 +6,9 @@ ghost use Rattle.z80dev.specs.declared.fault.Fault.TheVariants as fault;
 ghost use Rattle.zlink.specs.declared.fault.LinkFault.TheVariants as link;
 ghost use Rattle.zlink.specs.declared.fault.BuildFault.TheVariants as build;
 
+use host::{FILE_FAULT, REFUSED};
 use std::alloc::AllocError;
 use std::fmt;
-use z80dev_finish::{FILE_FAULT, REFUSED};
 use z80dev_make::{Refusal, Told};
 use zlink::{BuildFault, LinkFault};
 

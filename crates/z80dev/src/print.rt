@@ -6,13 +6,12 @@ ghost use Rattle.z80dev.specs.Reading.{IsCutShort, OfText};
 ghost use Rattle.z80dev.specs.Private.Steps.{Reports, Writes};
 ghost use Rattle.z80dev.specs.declared.fault.Fault.{Fault};
 ghost use Rattle.z80dev.specs.declared.text.TheConstants.{MOST_READS};
-ghost use Rattle.z80dev_finish.specs.End.{TellsOf};
+ghost use Rattle.host.specs.End.{TellsOf};
 
 use crate::fault::{Fault, SOURCE_NAME};
 use crate::text::read_text;
+use host::{DONE, End, Input, Sink, print, report};
 use std::alloc::Global;
-use streams::{Input, Sink, print};
-use z80dev_finish::{DONE, End, report};
 use zlink::{Source, build};
 
 /// Writes the bytes in lower-case hexadecimal, and a line feed.

@@ -7,8 +7,8 @@ ghost use Rattle.z80dev.specs.declared.text.TheConstants.{MOST_READS};
 
 use crate::fault::Fault;
 use common::LONGEST_TEXT;
+use host::{Input, ReadFault};
 use std::alloc::Global;
-use streams::{Input, ReadFault};
 
 /// The most reads of an input: one for each byte of the longest file that is read, and one for its end.
 pub const MOST_READS: usize = LONGEST_TEXT + 1;

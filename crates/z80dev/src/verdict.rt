@@ -4,11 +4,9 @@ ghost use Rattle.std.specs.Prelude.{◌≡◌, IfOk, string_bytes};
 ghost use Rattle.z80dev.specs.Private.Steps.{IsTextOf, Judges, end_of};
 ghost use Rattle.z80dev.specs.Verdict.{VerdictEnds, judged_line};
 
-use cert_check::{CheckFault, check};
-use certificate::Verdict;
+use cert_check::{CheckFault, Verdict, check};
+use host::{End, Sink, print};
 use std::alloc::{AllocError, Global};
-use streams::{Sink, print};
-use z80dev_finish::End;
 
 /// Answers the line of a verdict.
 fn line_of(alloc: Global, verdict: Verdict) -> Result<String, AllocError>

@@ -7,9 +7,9 @@ use crate::missed::Missed;
 use crate::reading::first_other;
 use crate::walks::walk;
 use asm_expr::ExprFault::DivideByZero;
-use asm_scan::ScanFault::{BadNumber, OpenString};
-use cert_check::check;
-use certificate::Verdict;
+use asm_line::ScanFault::{BadNumber, OpenString};
+use cert_check::{Verdict, check};
+use program_map::listing;
 use std::alloc::{AllocError, Global};
 use z80dev_cases::{Case, Spoil, Spoiled, random_program};
 use zlink::MacroFault::{ConditionNamesLabel, Scan, Stray};
@@ -18,7 +18,6 @@ use zlink::StmtFault::{
 };
 use zlink::Why::{self, Duplicate, EquCircle, Macro, Stmt, Undefined};
 use zlink::{AsmFault, BuildFault, Built, LinkFault, Misfit, Source, build};
-use zlisting::listing;
 
 /// The number of cases with each kind of answer.
 #[derive(Clone, Copy, Debug)]

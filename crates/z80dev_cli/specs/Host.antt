@@ -1,6 +1,6 @@
 -- The files of the system as a promise sees them: what they hold is not known.
 use Rattle.std.specs.Prelude.{Bool, None, String, string_bytes, true}
-use Rattle.z80dev_finish.specs.Files.{Claim, Lock, Part, Placement, lock_of}
+use Rattle.host.specs.Files.{Claim, Lock, Part, Placement, lock_of}
 use Rattle.std.specs.Global.{Global}
 use Rattle.z80dev_cli.specs.declared.files.lock.HeldLock.{HeldLock}
 use Rattle.z80dev_cli.specs.declared.files.part.Part as part

@@ -2,22 +2,25 @@
 
 mod lock;
 mod part;
+mod refused;
+mod taken;
 
 ghost use Rattle.std.specs.Prelude.{◌≡◌, ◌≤◌, IfOk, None, false, length, option_map, string_bytes, true};
 ghost use Rattle.common.specs.declared.limits.TheConstants.{LONGEST_TEXT};
-ghost use Rattle.streams.specs.Stream.{counted};
-ghost use Rattle.z80dev_finish.specs.Files.{IsLockWanted};
+ghost use Rattle.host.specs.Streams.Stream.{counted};
+ghost use Rattle.host.specs.Files.{IsLockWanted};
 ghost use Rattle.z80dev_cli.specs.Host.{held_claim, held_lock, placement_by, written_part};
 
+use host::{Claimed, Files, Placed, Unread, Watched, WatchedSink, WriteFailed, print};
 use lock::{HeldLock, is_one_file, take_lock};
 use part::{Part, write_part};
+use refused::{Access, Refused};
 use std::alloc::{AllocError, Global};
 use std::fs::{self, Metadata};
 use std::io::ErrorKind;
 use std::os::unix::fs::FileTypeExt;
-use streams::{Watched, WatchedSink, WriteFailed, print};
+use taken::{FileId, Taken};
 use z80dev::{Fault, read_text};
-use z80dev_finish::{Claimed, Files, Placed, Unread};
 
 /// The standard streams as paths.
 const INPUT: &str = "/proc/self/fd/0";
@@ -40,6 +43,10 @@ pub(crate) struct HostFiles<'a> {
     part: Option<Part>,
     /// Whether the last file that took the place of another would have been kept from it by one that was there.
     placed: Option<bool>,
+    /// The files that were read, which are not written over.
+    taken: Taken,
+    /// The path that the last call that failed was given, and what the call wanted to do with it, if there is memory for that.
+    refused: Option<Refused>,
 }
 
 impl<'a> HostFiles<'a> {
@@ -54,14 +61,25 @@ impl<'a> HostFiles<'a> {
             is_spent: false,
             part: None,
             placed: None,
+            taken: Taken::new(rt.alloc()),
+            refused: None,
         }
     }
 
-    /// Counts a call that failed.
-    fn fail(&mut self)
-        ensures { self.new ≡ record self.old { failures = counted self.old.failures } }
+    /// Counts a call that failed, and keeps its path and what it wanted to do with it.
+    fn fail(&mut self, refused: Option<Refused>)
+        ensures { self.new ≡ record self.old { failures = counted self.old.failures; refused = refused } }
     {
         self.failures = self.failures.saturating_add(1);
+        self.refused = refused;
+    }
+
+    /// Why the last call failed, as far as another look at its file tells.
+    pub(crate) fn reason(&self) -> Option<&'static str> {
+        match &self.refused {
+            Some(refused) => refused.reason(self.rt),
+            None => None,
+        }
     }
 
     /// Counts a lock that is asked for.
@@ -84,6 +102,29 @@ impl<'a> HostFiles<'a> {
         self.is_spent = false;
     }
 
+    /// Notes that a file was read.
+    fn note_read(&mut self, file: Option<FileId>) -> Result<(), AllocError>
+        ensures { self.new ≡ record self.old { taken = self.new.taken } }
+    {
+        match file {
+            Some(file) => self.taken.add(file),
+            None => Ok(()),
+        }
+    }
+
+    /// Whether a path is that of a file that was read, or on which the lock is, also if it was written otherwise there. A link to such a file
+    /// is not: what is written takes the place of the link.
+    fn is_input(&self, path: &str) -> bool {
+        let Ok(found) = fs::symlink_metadata(self.rt, path) else {
+            return false;
+        };
+        let is_locked = match &self.lock {
+            Some(lock) => is_file_of(self.rt, &lock.path, &found),
+            None => false,
+        };
+        is_locked || self.taken.has(&found)
+    }
+
     /// Counts a file that took its place; `keep` says whether one that was there would have been kept.
     fn count_replacement(&mut self, keep: bool)
         ensures { self.new ≡ record self.old { replacements = counted self.old.replacements; placed = Some keep } }
@@ -98,9 +139,12 @@ impl Files for HostFiles<'_> {
 
     fn read(&mut self, alloc: Global, path: &str) -> Result<Vec<u8>, Unread> {
         match read_whole(self.rt, alloc, path) {
-            Ok(bytes) => Ok(bytes),
+            Ok(Whole { bytes, file }) => match self.note_read(file) {
+                Ok(()) => Ok(bytes),
+                Err(AllocError) => Err(Unread::NoMemory),
+            },
             Err(Unread::File) => {
-                self.fail();
+                self.fail(Refused::new(alloc, path, Access::Read));
                 Err(Unread::File)
             }
             Err(Unread::NoMemory) => Err(Unread::NoMemory),
@@ -108,11 +152,16 @@ impl Files for HostFiles<'_> {
     }
 
     fn write(&mut self, path: &str, bytes: &[u8]) -> Result<(), WriteFailed> {
-        let answer = write(self.rt, path, bytes);
-        if answer.is_err() {
-            self.fail();
-        }
-        answer
+        // Two paths may name one file though their texts differ. Then the command could not know that it writes over what it reads.
+        let access = if self.is_input(path) {
+            Access::WriteInput
+        } else if write(self.rt, path, bytes).is_err() {
+            Access::Write
+        } else {
+            return Ok(());
+        };
+        self.fail(Refused::new(self.rt.alloc(), path, access));
+        Err(WriteFailed)
     }
 
     fn lock(&mut self, alloc: Global, path: &str, is_wanted: bool) -> Result<bool, Unread> {
@@ -124,7 +173,7 @@ impl Files for HostFiles<'_> {
                 Ok(is_held)
             }
             Err(Unread::File) => {
-                self.fail();
+                self.fail(Refused::new(alloc, path, Access::Lock));
                 Err(Unread::File)
             }
             Err(Unread::NoMemory) => Err(Unread::NoMemory),
@@ -144,7 +193,7 @@ impl Files for HostFiles<'_> {
                 Ok(Claimed { bytes, is_locked })
             }
             Err(Unread::File) => {
-                self.fail();
+                self.fail(Refused::new(alloc, path, Access::Claim));
                 Err(Unread::File)
             }
             Err(Unread::NoMemory) => Err(Unread::NoMemory),
@@ -162,7 +211,7 @@ impl Files for HostFiles<'_> {
                 Ok(())
             }
             Err(WriteFailed) => {
-                self.fail();
+                self.fail(Refused::new(self.rt.alloc(), path, Access::Replace));
                 Err(WriteFailed)
             }
         }
@@ -179,7 +228,7 @@ impl Files for HostFiles<'_> {
             }
             Err(WriteFailed) => {
                 part.discard(self.rt);
-                self.fail();
+                self.fail(None);
                 Err(WriteFailed)
             }
         }
@@ -196,22 +245,30 @@ impl Files for HostFiles<'_> {
             }
             Ok(Placed::Exists) => Ok(Placed::Exists),
             Err(WriteFailed) => {
-                self.fail();
+                self.fail(None);
                 Err(WriteFailed)
             }
         }
     }
 }
 
+/// What a file holds, and which file it is, unless it is a pipe or a device.
+#[derive(Drop)]
+struct Whole {
+    bytes: Vec<u8>,
+    file: Option<FileId>,
+}
+
 /// Reads a file whole.
-fn read_whole(rt: &HostRuntime, alloc: Global, path: &str) -> Result<Vec<u8>, Unread>
-    ensures { IfOk result (λ bytes. length bytes.items ≤ LONGEST_TEXT) }
+fn read_whole(rt: &HostRuntime, alloc: Global, path: &str) -> Result<Whole, Unread>
+    ensures { IfOk result (λ whole. length whole.bytes.items ≤ LONGEST_TEXT) }
 {
-    let Ok(file) = fs::open(rt, path) else {
+    let Ok(opened) = fs::open(rt, path) else {
         return Err(Unread::File);
     };
-    match read_text(alloc, &mut Watched::new(file)) {
-        Ok(bytes) => Ok(bytes),
+    let file = FileId::of_open(&opened);
+    match read_text(alloc, &mut Watched::new(opened)) {
+        Ok(bytes) => Ok(Whole { bytes, file }),
         Err(Fault::File) => Err(Unread::File),
         Err(Fault::Build(_)) => Err(Unread::NoMemory),
     }
@@ -228,8 +285,8 @@ fn claim(
 {
     let lock = take_lock(rt, alloc, path, is_wanted, true)?;
     let bytes = match &lock.names {
-        Some(names) => read_whole(rt, alloc, &names.target)?,
-        None => read_whole(rt, alloc, path)?,
+        Some(names) => read_whole(rt, alloc, &names.target)?.bytes,
+        None => read_whole(rt, alloc, path)?.bytes,
     };
     Ok((lock, bytes))
 }
@@ -290,7 +347,7 @@ fn write_linked(
     write_found(rt, path, bytes, found)
 }
 
-/// Whether this is the file that a standard stream leads to.
-fn is_file_of(rt: &HostRuntime, stream: &str, found: &Metadata) -> bool {
-    fs::metadata(rt, stream).is_ok_and(|file| is_one_file(&file, found))
+/// Whether this is the file that a path leads to, such as that of a standard stream.
+fn is_file_of(rt: &HostRuntime, path: &str, found: &Metadata) -> bool {
+    fs::metadata(rt, path).is_ok_and(|file| is_one_file(&file, found))
 }

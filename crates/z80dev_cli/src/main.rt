@@ -2,9 +2,14 @@
 #![tactic(auto)]
 
 mod files;
+mod keyboard;
+mod notes;
 mod words;
 
 use files::HostFiles;
+use host::{FILE_FAULT, put_all};
+use keyboard::Keyboard;
+use notes::{explain_note, keyboard_note, program_path, source_note};
 use std::alloc::AllocError;
 use std::fs::{self, File};
 use std::io::{self, IsTerminal, LineWriter};
@@ -29,12 +34,60 @@ fn run(rt: &HostRuntime) -> Result<u8, AllocError> {
     };
     let host = Host {
         files: HostFiles::new(rt),
-        input: Watched::new(rt.stdin()),
+        input: Watched::new(Keyboard::new(rt.stdin())),
         output: WatchedSink::new(output),
         errors: WatchedSink::new(rt.stderr()),
         is_terminal,
     };
-    Ok(command(rt.alloc(), &words, host).status)
+    prepare(rt, &words);
+    let ended = command(rt.alloc(), &words, host);
+    if rt.stderr().is_terminal() {
+        advise(rt, &words, ended.status, &ended.host.files);
+    }
+    Ok(ended.status)
+}
+
+/// Whether the program that these words run is there, if they run one.
+fn has_program(rt: &HostRuntime, words: &[Vec<u8>]) -> bool {
+    match program_path(rt.alloc(), words) {
+        Some(path) => fs::metadata(rt, path.as_str()).is_ok(),
+        None => true,
+    }
+}
+
+/// Says to somebody at a terminal what the command waits for. Scripts rely on the lines of the command alone.
+fn prepare(rt: &HostRuntime, words: &[Vec<u8>]) {
+    if !rt.stdin().is_terminal() || !rt.stderr().is_terminal() || !has_program(rt, words) {
+        return;
+    }
+    if let Some(text) = keyboard_note(rt.alloc(), words) {
+        note(rt, text);
+    }
+}
+
+/// Says to somebody at a terminal why a file could not be used, which command says more of an error, or that a source was run as a program.
+fn advise(rt: &HostRuntime, words: &[Vec<u8>], status: u8, files: &HostFiles<'_>) {
+    if status == FILE_FAULT {
+        explain(rt, files);
+    } else if let Some(text) = explain_note(rt.alloc(), words, status) {
+        note(rt, text.as_str());
+    } else if let Some(text) = source_note(rt.alloc(), words) {
+        note(rt, text.as_str());
+    }
+}
+
+/// Prints why a file could not be used, after the line that names it.
+fn explain(rt: &HostRuntime, files: &HostFiles<'_>) {
+    let Some(reason) = files.reason() else {
+        return;
+    };
+    note(rt, reason);
+}
+
+/// Prints a line that begins with `note: `.
+fn note(rt: &HostRuntime, text: &str) {
+    let mut errors = WatchedSink::new(rt.stderr());
+    let _ = put_all(&mut errors, &[b"note: ", text.as_bytes(), b"\n"]);
 }
 
 /// Opens a folder, or if this program may open none, a device that is there on nearly every system.

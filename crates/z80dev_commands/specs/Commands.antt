@@ -44,13 +44,9 @@ paths_rule name = record (new_rule name) {
 abbrev pub words_rule : Text → Rule
 words_rule name = record (paths_rule name) { required = false }
 
--- `--out BASE`, or `-o BASE`, which is required
-abbrev pub out_rule : Rule
-out_rule = record (path_rule (codes "BASE")) { long = Some (codes "out"); short = Some 111 }
-
--- the same, which need not be given
+-- `--out BASE`, or `-o BASE`, which need not be given
 abbrev pub base_rule : Rule
-base_rule = record out_rule { required = false }
+base_rule = record (name_rule (codes "BASE")) { long = Some (codes "out"); short = Some 111 }
 
 -- `--NAME ID`, which need not be given
 abbrev pub option_rule : Text → Text → Rule
@@ -113,13 +109,13 @@ target_rules = user_rule ∷ flag_rule (codes "no-lock") ∷ path_rule (codes "I
 abbrev pub with_rules : Text → List Rule → Shape
 with_rules name rules = record (new_shape name) { rules = rules }
 
--- `asm --out BASE [--grow] [--no-warn] [--define NAME=VALUE].. [--with FILE].. SRC`
+-- `asm [--out BASE] [--grow] [--no-warn] [--define NAME=VALUE].. [--with FILE].. SRC`
 abbrev pub asm_shape : Shape
-asm_shape = with_rules (codes "asm") (out_rule ∷ flag_rule (codes "grow") ∷ flag_rule (codes "no-warn") ∷ define_rule ∷ with_file_rule ∷ path_rule (codes "SRC") ∷ [])
+asm_shape = with_rules (codes "asm") (base_rule ∷ flag_rule (codes "grow") ∷ flag_rule (codes "no-warn") ∷ define_rule ∷ with_file_rule ∷ path_rule (codes "SRC") ∷ [])
 
--- `link --out BASE [--map] [--symbols FORM] OBJ..`
+-- `link [--out BASE] [--map] [--symbols FORM] OBJ..`
 abbrev pub link_shape : Shape
-link_shape = with_rules (codes "link") (out_rule ∷ flag_rule (codes "map") ∷ symbols_rule ∷ paths_rule (codes "OBJ") ∷ [])
+link_shape = with_rules (codes "link") (base_rule ∷ flag_rule (codes "map") ∷ symbols_rule ∷ paths_rule (codes "OBJ") ∷ [])
 
 -- `build [--out BASE] [--grow] [--list] [--map] [--symbols FORM] [--verbose] [--no-warn] [--define NAME=VALUE].. [--with FILE].. SRC..`
 abbrev pub build_shape : Shape
@@ -136,9 +132,13 @@ explain_shape = with_rules (codes "explain")
 abbrev pub check_shape : Shape
 check_shape = with_rules (codes "check") (path_rule (codes "SIZES") ∷ path_rule (codes "CERT") ∷ [])
 
--- `dis [--labels SYM] [--entry ADDR].. COM`
+-- `--data DATA`, which may be given any number of times
+abbrev pub data_rule : Rule
+data_rule = list_rule (codes "data") (codes "DATA")
+
+-- `dis [--labels SYM] [--entry ADDR].. [--data DATA].. COM`
 abbrev pub dis_shape : Shape
-dis_shape = with_rules (codes "dis") (labels_rule ∷ list_rule (codes "entry") (codes "ADDR") ∷ path_rule (codes "COM") ∷ [])
+dis_shape = with_rules (codes "dis") (labels_rule ∷ list_rule (codes "entry") (codes "ADDR") ∷ data_rule ∷ path_rule (codes "COM") ∷ [])
 
 -- `dir [--user N] [--long] IMG [NAME]`
 abbrev pub dir_shape : Shape
@@ -331,9 +331,9 @@ IsDiskJobOf met (on.Blank blank) = Meets met (codes "blank") (λ rows. (is_on (c
 -- The job of the command that a parse found, with the values of its arguments.
 abbrev pub IsJobOf : Option (Text × List Row) → Job → Type 0
 IsJobOf met Pipe = met ≡ None
-IsJobOf met (Asm asm) = Meets met (codes "asm") (λ rows. HasValue (codes "BASE") asm.out rows
+IsJobOf met (Asm asm) = Meets met (codes "asm") (λ rows. FindsIfGiven (codes "BASE") asm.out rows
     × (is_on (codes "grow") rows ≡ asm.grow) × (is_on (codes "no-warn") rows ≡ not asm.warn) × FindsShared asm.shared rows × HasValue (codes "SRC") asm.source rows)
-IsJobOf met (Link link) = Meets met (codes "link") (λ rows. HasValue (codes "BASE") link.out rows
+IsJobOf met (Link link) = Meets met (codes "link") (λ rows. FindsIfGiven (codes "BASE") link.out rows
     × (is_on (codes "map") rows ≡ link.map) × FindsIfGiven (codes "FORM") link.symbols rows × FindsAll (codes "OBJ") link.objects.items rows)
 IsJobOf met (Build build) = Meets met (codes "build") (λ rows. FindsIfGiven (codes "BASE") build.out rows
     × (is_on (codes "grow") rows ≡ build.grow) × (is_on (codes "list") rows ≡ build.list)
@@ -344,7 +344,7 @@ IsJobOf met (Explain explain) = Meets met (codes "explain") (λ rows. (is_on (co
     × FindsShared explain.shared rows × FindsAll (codes "SRC") explain.sources.items rows)
 IsJobOf met (Check check) = Meets met (codes "check") (λ rows. HasValue (codes "SIZES") check.sizes rows × HasValue (codes "CERT") check.cert rows)
 IsJobOf met (Dis dis) = Meets met (codes "dis") (λ rows. FindsIfGiven (codes "SYM") dis.labels rows
-    × FindsAny (codes "ADDR") dis.entries.items rows × HasValue (codes "COM") dis.program rows)
+    × FindsAny (codes "ADDR") dis.entries.items rows × FindsAny (codes "DATA") dis.data_starts.items rows × HasValue (codes "COM") dis.program rows)
 IsJobOf met (Disk job) = IsDiskJobOf met job
 IsJobOf met (Run run) = Meets met (codes "run") (λ rows. FindsIfGiven (codes "IMG") run.disk rows
     × FindsLock run.lock rows × FindsNumber (codes "N") run.steps rows × FindsTelling run.telling rows × HasValue (codes "COM") run.program rows × FindsAny (codes "WORD") run.words.items rows)

@@ -21,11 +21,12 @@ docs/GUIDE.md in the sources takes you through a whole program.";
 pub(crate) const ASM: &str =
     r"Reads SRC and writes the object file BASE.zmo for `z80dev link`. Prints
 nothing but warnings. If SRC or a FILE has the path BASE.zmo, nothing is
-written, and there is a line `error: Overwrites(PATH)`.
+written, and there is a line `error: Overwrites(PATH)`. Without --out, BASE is
+the path of SRC without its ending.
 
 `z80dev build --help` explains --define, --with and --no-warn.
 
-Example: z80dev asm -o main main.asm
+Example: z80dev asm main.asm
 writes main.zmo.";
 
 pub(crate) const LINK: &str =
@@ -34,7 +35,8 @@ BASE.siz, the size of each statement; BASE.crt, the certificate that no choice
 of short and long jumps gives fewer bytes; and BASE.com, the program. If no
 choice fits, it writes BASE.siz and BASE.crt only, and the certificate shows
 why. Prints nothing. If an OBJ has the path of one of these files, nothing is
-written, and there is a line `error: Overwrites(PATH)`.
+written, and there is a line `error: Overwrites(PATH)`. Without --out, BASE is
+the path of the first OBJ without its ending.
 
 `z80dev build --help` explains --map and --symbols. An object file does not tell
 code from data, so the map has one number for both.
@@ -51,7 +53,9 @@ why. Prints nothing but warnings; with --grow, prints a line `grown PATH(LINE)`
 for each JR that became a JP.
 
 Without --out, BASE is the path of the first SRC without its ending: src/game
-for src/game.asm. With --list, it also writes BASE.lst and BASE.sym.
+for src/game.asm. With --out, an ending is added all the same: --out game.com
+writes game.com.com, and --out folder/ writes folder/.com. With --list, it also
+writes BASE.lst and BASE.sym.
 
 With --map, it also writes BASE.map, for people: the addresses of each module,
 its bytes of code, data and space, its public names, the jumps that are short
@@ -139,8 +143,16 @@ which `z80dev build` makes the same bytes. Writes nothing.
 
 What the program reaches from 0100H by jumps and calls is printed as
 instructions, and the rest as data. If it also jumps to an address that it
-computes or reads from a table, give that address with --entry, which may be
-given several times. ADDR is a number as in a source, such as 0150H or 336.
+computes or reads from a table, give that address with --entry. A call is taken
+to return. So if a text follows a CALL, give its address with --data, and the
+address of the code after the text with --entry: the byte at an address of
+--data is no part of an instruction. Both may be given several times. ADDR and
+DATA are numbers as in a source, such as 0150H or 336. Do not leave out the H:
+0150 is 150, while a command of `z80dev debug` takes 0150 as 0150H.
+
+If a line of DB comes right after an instruction that is no jump and no return,
+one of the two may be wrong: see whether a text follows a CALL there, or an
+address of --entry lies in data.
 
 With --labels, the labels have the names of SYM, which `z80dev build --list`
 writes, except those that two modules have. Without a name, a label is L and its
@@ -150,7 +162,10 @@ Example: z80dev dis game.com >again.asm
 writes again.asm.
 
 Example: z80dev dis --labels game.sym --entry 0150H game.com
-prints the source with the names of game.sym.";
+prints the source with the names of game.sym.
+
+Example: z80dev dis --data 0103H --entry 0109H game.com
+takes the six bytes from 0103H for data.";
 
 pub(crate) const DIR: &str =
     r"Reads IMG and prints a line for each file: its user, its name, its length in
@@ -184,6 +199,12 @@ in one step: IMG has the old file or the new one.
 
 With --text, each LF becomes CR LF, and 1AH is added at the end.
 
+`error: BadName` means that NAME has a lower-case letter or is no name of CP/M
+in another way; `z80dev put --to` writes the name in upper case itself. IMG
+comes first, also with --to: a file that is no image may count as a short image
+without files, and is then written over. An IMG that ends with .com or .asm, as
+a program or a source does, is refused: `error: Overwrites(IMG)`.
+
 IMG is locked from before it is read until it is replaced. A second command that
 needs the lock waits up to a second, then ends with `error: file IMG`, status 3.
 With --no-lock, nothing waits, and of two commands that change IMG at the same
@@ -213,7 +234,8 @@ without a warning, unless it is IMG: then there is a line
 
 NAME may have ? and * in it, as `z80dev dir --help` explains. Each file that
 matches is then written into the folder FILE under its own name. With --all,
-every file of the user is written into FOLDER. The folder has to be there.
+every file of the user is written into FOLDER. The folder has to be there. Files
+of these names in the folder are replaced too, so use a folder of its own.
 
 With --text, a file ends at its first 1AH, and each CR LF becomes LF.
 
@@ -226,7 +248,8 @@ pub(crate) const ERASE: &str =
     r"Reads IMG and writes it without the files NAME. Each NAME is in upper case, as
 GAME.COM; it may have ? and * in it, as `z80dev dir --help` explains. If one of
 the files is read-only, nothing is erased, and there is a line such as
-`error: ReadOnly(GAME.COM)`. Prints nothing.
+`error: ReadOnly(GAME.COM)`. If a NAME matches no file besides those of the NAMEs
+before it, nothing is erased either: `error: NotFound(GAME.COM)`. Prints nothing.
 
 IMG is locked and replaced as `z80dev put --help` explains.
 
@@ -283,9 +306,9 @@ pub(crate) const DEBUG: &str =
     r"Reads COM and then commands from standard input, a line each, and prints an
 answer to each before it reads the next. The commands step, next, finish and run
 make steps of the program, back, back-next and back-run go back, turn goes to any
-state, and break, watch and who find the place. `help` prints all of them, and
-`quit` ends the session. A command may be shortened, as `s` for step. `break` and
-`watch` print what they set.
+state, and break, watch and who find the place. `help` prints all of them, or the
+line of one, as `help run`; `quit` ends the session. A command may be shortened,
+as `s` for step. `break` and `watch` print what they set.
 
 Nothing is written: what the program writes to its disk is gone at the end. What
 it prints is shown after `| `. What it gets as typed comes from FILE, with each
@@ -332,8 +355,8 @@ The status is 0 if the program finished, you left, or the session of REC is
 over; 1 with a line `stopped: WHY at PPPP` if the program was stopped, or with a
 line `error: ..` if IMG is not an image of a disk or REC is not the record of a
 session; 2 if a word of the command is wrong, as a FILE that is COM, IMG or REC
-or ends with .com; and 3 if a file cannot be read or written, IMG cannot be
-locked, or standard input or output fails.
+or ends with .com, .asm or .img; and 3 if a file cannot be read or written, IMG
+cannot be locked, or standard input or output fails.
 
 Example: z80dev-play --disk game.img game.com
 runs game.com at the keyboard.";
@@ -363,18 +386,21 @@ counts as such a one, and is right.)
 
 --trace writes such a line for each of the first 1,000,000 steps to TRC: its
 number, the address, the label, the instruction's bytes and text, and the
-registers that it changed. --profile writes to PRF how often the instruction at
-each address ran, most often first; with --list, it writes the lines of LST
-instead, each after how often its instruction ran. With --labels, each address
-has the label of SYM before it and how many bytes after it.
+registers that it changed. A TRC or PRF that exists is replaced without a
+warning. --profile writes to PRF how often the instruction at each address ran,
+most often first; with --list, it writes the lines of LST instead, each after
+how often its instruction ran. With --labels, each address has the label of SYM
+before it and how many bytes after it.
 
-The status is 0 if the program ends by itself, and 1 if something stops it or it
-is too long to be loaded; then standard error has a line `stopped: WHY at PPPP`.
-If a file or an option is at fault, there is a line `error: ..` instead: the
-status is 1 if IMG is not an image of a disk, if SYM is not a file of labels, if
-TRC or PRF is a file that is read or ends with .com or they are the same, or if
---list is given without --profile, or --labels without --regs, --last, --trace
-and --profile, and 3 if a file cannot be read or written or IMG cannot be
-locked. If TRC or PRF cannot be written, the line comes after the others.
+The status is 0 if the program ends by itself, also if it ran on past its last
+byte and came to its end by mistake, which only --regs and --last tell. It is 1
+if something stops it or it is too long to be loaded; then standard error has a
+line `stopped: WHY at PPPP`. If a file or an option is at fault, there is a line
+`error: ..` instead: the status is 1 if IMG is not an image of a disk, if SYM is
+not a file of labels, if TRC or PRF is a file that is read or ends with .com,
+.asm or .img, or they are the same, if IMG ends with .com or .asm, or if --list
+is given without --profile, or --labels without --regs, --last, --trace and
+--profile, and 3 if a file cannot be read or written or IMG cannot be locked. If
+TRC or PRF cannot be written, the line comes after the others.
 
 Example: z80dev run --disk a.img game.com FILE.TXT";

@@ -12,8 +12,8 @@ pub struct Shared<'a> {
 /// `asm`: assembles a source to an object.
 #[derive(Debug, Drop)]
 pub struct Asm<'a> {
-    /// The path of the files to write, without their endings.
-    pub out: &'a str,
+    /// The path of the files to write, without their endings. `None` for that of the source.
+    pub out: Option<&'a str>,
     /// Whether a written `JR` may become a `JP`.
     pub grow: bool,
     /// Whether the command warns of code that relies on the length of a jump.
@@ -26,8 +26,8 @@ pub struct Asm<'a> {
 /// `link`: links objects to a program.
 #[derive(Debug, Drop)]
 pub struct Link<'a> {
-    /// The path of the files to write, without their endings.
-    pub out: &'a str,
+    /// The path of the files to write, without their endings. `None` for that of the first object.
+    pub out: Option<&'a str>,
     /// Whether a map of the program is written.
     pub map: bool,
     /// The form of the file of symbols, if one is to be written.
@@ -90,6 +90,8 @@ pub struct Dis<'a> {
     pub labels: Option<&'a str>,
     /// Addresses at which code begins, in the order of the words.
     pub entries: Vec<&'a str>,
+    /// Addresses at which data begins, in the order of the words.
+    pub data_starts: Vec<&'a str>,
     /// The path of the .COM file.
     pub program: &'a str,
 }

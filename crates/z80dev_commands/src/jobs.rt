@@ -162,7 +162,7 @@ fn asm<'a>(alloc: Global, found: &ArgMatches<'a>) -> Result<Job<'a>, AllocError>
     ensures { IfOk result (IsJobOf (Some (codes "asm", rows_of (found_of found.now)))) }
 {
     Ok(Job::Asm(Asm {
-        out: text(found, "BASE"),
+        out: text_if_given(found, "BASE"),
         grow: flag(found, "grow"),
         warn: warn(found),
         shared: shared(alloc, found)?,
@@ -175,7 +175,7 @@ fn link<'a>(alloc: Global, found: &ArgMatches<'a>) -> Result<Job<'a>, AllocError
     ensures { IfOk result (IsJobOf (Some (codes "link", rows_of (found_of found.now)))) }
 {
     Ok(Job::Link(Link {
-        out: text(found, "BASE"),
+        out: text_if_given(found, "BASE"),
         map: flag(found, "map"),
         symbols: text_if_given(found, "FORM"),
         objects: texts(alloc, found, "OBJ")?,
@@ -230,6 +230,7 @@ fn dis<'a>(alloc: Global, found: &ArgMatches<'a>) -> Result<Job<'a>, AllocError>
     Ok(Job::Dis(Dis {
         labels: text_if_given(found, "SYM"),
         entries: texts_if_given(alloc, found, "ADDR")?,
+        data_starts: texts_if_given(alloc, found, "DATA")?,
         program: text(found, "COM"),
     }))
 }

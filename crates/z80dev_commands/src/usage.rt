@@ -10,9 +10,9 @@ ghost use Rattle.z80dev_commands.specs.Private.{alone};
 
 use crate::help;
 use arguments::{
-    any_steps, base, color, define, flag, grow, image, json, jumps, labels, list, map,
-    name_if_given, names, no_lock, no_warn, option, out_given, path, paths, raw, steps, symbols,
-    user, user_or_zero, verbose, with_file, with_target, with_telling, words,
+    any_steps, base, color, data, define, flag, grow, image, json, jumps, labels, list, map,
+    name_if_given, names, no_lock, no_warn, option, path, paths, raw, steps, symbols, user,
+    user_or_zero, verbose, with_file, with_target, with_telling, words,
 };
 use clap::Command;
 use std::alloc::{AllocError, Global};
@@ -38,7 +38,10 @@ fn asm<'a>(alloc: Global) -> Result<Command<'a>, AllocError>
         "Assembles a source file to an object file",
         help::ASM,
     )
-    .arg(out_given(alloc))?
+    .arg(base(
+        alloc,
+        "The path of the object file, without its ending [default: SRC without its ending]",
+    ))?
     .arg(grow(alloc))?
     .arg(no_warn(alloc))?
     .arg(define(alloc))?
@@ -51,7 +54,10 @@ fn link<'a>(alloc: Global) -> Result<Command<'a>, AllocError>
     ensures local { IfOk result (λ c. (out-Command c).has_globals ≡ false) }
 {
     titled(alloc, "link", "Links object files to a program", help::LINK)
-        .arg(out_given(alloc))?
+        .arg(base(
+            alloc,
+            "The path of the files to write, without their endings [default: the first OBJ without its ending]",
+        ))?
         .arg(map(alloc))?
         .arg(symbols(alloc))?
         .arg(paths(
@@ -71,7 +77,10 @@ fn build<'a>(alloc: Global) -> Result<Command<'a>, AllocError>
         "Assembles and links source files to a program",
         help::BUILD,
     )
-    .arg(base(alloc))?
+    .arg(base(
+        alloc,
+        "The path of the files to write, without their endings [default: the first SRC without its ending]",
+    ))?
     .arg(grow(alloc))?
     .arg(flag(
         alloc,
@@ -149,6 +158,7 @@ fn dis<'a>(alloc: Global) -> Result<Command<'a>, AllocError>
         "ADDR",
         "An address at which code begins, such as 0150H",
     ))?
+    .arg(data(alloc))?
     .arg(path(alloc, "COM", "The path of the program"))
 }
 

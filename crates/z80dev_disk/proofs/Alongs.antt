@@ -1,7 +1,7 @@
 -- Work that is done along a list, element by element.
 use Rattle.std.proofs.Common.{◌≡◌, ◌<◌, ◌≤◌, ◌+◌, ℕ, zero, suc, List, [], ◌∷◌, ◌++◌, Some, get_or, length, map, slice_get, take, refl, subst, sym, ◌∙◌, ap, arith}
 use Rattle.std.proofs.lemmas.List.{take_all}
-use Rattle.cpm_directory.specs.declared.fault.DiskFault.{DiskFault}
+use Rattle.cpm_image.specs.declared.directory.fault.DiskFault.{DiskFault}
 use Rattle.cpm_disk.specs.Image.{Image}
 use Rattle.z80dev_disk.specs.Along.{Along, IsRefusedAlong}
 use Rattle.z80dev_disk.specs.Private.{IsRefusedAt}

@@ -1,11 +1,11 @@
 -- Entries of a directory that break a rule.
 use Rattle.std.proofs.Common.{List, [], ◌∷◌, IfSome, take, inl, arith}
 use Rattle.cpm_image.specs.declared.kind.DiskKind.{DiskKind}
-use Rattle.cpm_directory.specs.Rules.{AreBroken, IsFaultOf, IsRuleFault}
-use Rattle.cpm_directory.specs.declared.broken.Broken.{Broken}
-use Rattle.cpm_directory.specs.declared.entry.Entry.{Entry}
-use Rattle.cpm_directory.specs.declared.fault.DiskFault.{DiskFault}
-use Rattle.cpm_directory.specs.declared.fault.DiskFault.TheVariants as fault
+use Rattle.cpm_image.specs.Directory.Rules.{AreBroken, IsFaultOf, IsRuleFault}
+use Rattle.cpm_image.specs.declared.directory.broken.Broken.{Broken}
+use Rattle.cpm_image.specs.declared.directory.entry.Entry.{Entry}
+use Rattle.cpm_image.specs.declared.directory.fault.DiskFault.{DiskFault}
+use Rattle.cpm_image.specs.declared.directory.fault.DiskFault.TheVariants as fault
 use Rattle.z80dev_disk.specs.Check.{first_broken_rule}
 use Rattle.z80dev_disk.specs.Refusals.{IsRefusalOf, RefusesNone}
 

@@ -2,14 +2,14 @@
 use Rattle.std.proofs.Common.{◌≡◌, ℕ, Bool, true, false, ◌&&◌, not, List, Result, Ok, Err, count_by, subst, sym, ap, ◌∙◌}
 use Rattle.std.specs.List.{list_any}
 use Rattle.std.proofs.lemmas.Bool.{and_parts}
-use Rattle.cpm_directory.specs.declared.attribute.Attribute.{Attribute}
-use Rattle.cpm_directory.specs.declared.entry.Entry.{Entry}
-use Rattle.cpm_directory.specs.declared.fault.DiskFault.{DiskFault}
-use Rattle.cpm_directory.specs.declared.fault.DiskFault.TheVariants as fault
-use Rattle.cpm_directory.specs.Entries.{is_match, is_read_only}
-use Rattle.cpm_directory.specs.Letters.{name_matches}
-use Rattle.cpm_directory.specs.Rules.{IsSound}
-use Rattle.cpm_directory.specs.Searches.{is_file}
+use Rattle.cpm_image.specs.declared.directory.attribute.Attribute.{Attribute}
+use Rattle.cpm_image.specs.declared.directory.entry.Entry.{Entry}
+use Rattle.cpm_image.specs.declared.directory.fault.DiskFault.{DiskFault}
+use Rattle.cpm_image.specs.declared.directory.fault.DiskFault.TheVariants as fault
+use Rattle.cpm_image.specs.Directory.Entries.{is_match, is_read_only}
+use Rattle.cpm_image.specs.Directory.Letters.{name_matches}
+use Rattle.cpm_image.specs.Directory.Rules.{IsSound}
+use Rattle.cpm_image.specs.Directory.Searches.{is_file}
 use Rattle.cpm_disk.specs.Steps.{erasure, unless}
 use Rattle.cpm_disk.specs.Calls.{Mounted}
 use Rattle.cpm_disk.specs.Files.{IsMarkedFile, IsMatched, IsNoFile, OthersAreSame}

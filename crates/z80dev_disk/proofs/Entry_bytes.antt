@@ -3,9 +3,9 @@ use Rattle.std.proofs.Common.{◌≡◌, ◌<◌, ◌+◌, ◌*◌, ◌/◌, ◌
 use Rattle.std.proofs.lemmas.List.{drop_more, length-append, length-drop, length-take}
 use Rattle.cpm_image.specs.Kind.{entry_count}
 use Rattle.cpm_image.specs.declared.kind.DiskKind.{DiskKind}
-use Rattle.cpm_directory.proofs.Bytes.{entry_of-bytes}
-use Rattle.cpm_directory.specs.declared.entry.Entry.{Entry}
-use Rattle.cpm_directory.specs.Entries.{at, blank, bytes_of, entry_of}
+use Rattle.cpm_image.proofs.EntryBytes.{entry_of-bytes}
+use Rattle.cpm_image.specs.declared.directory.entry.Entry.{Entry}
+use Rattle.cpm_image.specs.Directory.Entries.{at, blank, bytes_of, entry_of}
 use Rattle.cpm_disk.proofs.Places.{at_directory}
 use Rattle.cpm_disk.specs.Image.{Image, directory, disk_record}
 

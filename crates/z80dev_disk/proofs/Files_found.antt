@@ -2,9 +2,9 @@
 use Rattle.std.proofs.Common.{◌≡◌, ◌<◌, ◌==◌, ℕ, false, not, All, List, [], ◌∷◌, Option, find, length, option_map, unwrap_or, refl, sym, ap, subst, true≢false}
 use Rattle.std.proofs.lemmas.List.Elements.{All-filter}
 use Rattle.cpm_image.specs.declared.kind.DiskKind.{DiskKind}
-use Rattle.cpm_directory.specs.Searches.{size}
-use Rattle.cpm_directory.specs.declared.entry.TheConstants.{USERS}
-use Rattle.cpm_directory.specs.declared.listing.Listed.{Listed}
+use Rattle.cpm_image.specs.Directory.Searches.{size}
+use Rattle.cpm_image.specs.declared.directory.entry.TheConstants.{USERS}
+use Rattle.cpm_image.specs.declared.directory.listing.Listed.{Listed}
 use Rattle.cpm_disk.specs.Image.{Image, directory}
 use Rattle.z80dev_disk.specs.Dir.{is_asked}
 use Rattle.z80dev_disk.specs.Get.{refusal_of}

@@ -6,7 +6,7 @@ use Rattle.std.proofs.lemmas.Bool.{and_parts, leb-true}
 use Rattle.std.proofs.Math.Seq.{drop-append_seam, take-append_seam}
 use Rattle.std.proofs.lemmas.List.{append_assoc, drop-replicate, length-append, length-replicate, map-append, replicate-append-replicate}
 use borrow.Rule.Slice.PartMut.{put_mid}
-use Rattle.cpm_directory.specs.Letters.{letters}
+use Rattle.cpm_image.specs.Directory.Letters.{letters}
 use Rattle.z80dev_disk.specs.Words.{padded, is_name_byte, is_name_part}
 
 seven : (b : ℕ) → is_name_byte b ≡ true → b % 128 ≡ b

@@ -1,8 +1,8 @@
 -- Calls of a disk in memory, whose device never fails.
 use Rattle.std.proofs.Common.{◌≡◌, ℕ, false, Result, Err, sym, ◌∙◌, inl, inr, arith, true≢false}
 use Rattle.cpm_image.specs.Device.{HasRisen}
-use Rattle.cpm_directory.specs.declared.fault.DiskFault.{DiskFault}
-use Rattle.cpm_directory.specs.declared.fault.DiskFault.TheVariants as fault
+use Rattle.cpm_image.specs.declared.directory.fault.DiskFault.{DiskFault}
+use Rattle.cpm_image.specs.declared.directory.fault.DiskFault.TheVariants as fault
 use Rattle.cpm_disk.specs.Calls.{Mounted, HasOutcome}
 use Rattle.cpm_disk.specs.Image.{Image}
 

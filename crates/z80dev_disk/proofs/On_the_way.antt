@@ -6,13 +6,13 @@ use Rattle.std.proofs.lemmas.List.{drop-drop, length-drop}
 use Rattle.cpm_image.specs.Kind.{block_records, file_records}
 use Rattle.cpm_image.specs.declared.kind.DiskKind.{DiskKind}
 use Rattle.cpm_image.specs.declared.kind.DiskKind.TheVariants.{EightInch, Megabyte}
-use Rattle.cpm_directory.specs.declared.entry.Entry.{Entry}
-use Rattle.cpm_directory.specs.declared.entry.TheConstants.{USERS}
-use Rattle.cpm_directory.specs.declared.fault.DiskFault.{DiskFault}
-use Rattle.cpm_directory.specs.declared.fault.DiskFault.TheVariants as fault
-use Rattle.cpm_directory.specs.Entries.{block, is_extent_of, is_of, new_extent, with_record}
-use Rattle.cpm_directory.specs.Rules.{IsSound}
-use Rattle.cpm_directory.specs.Searches.{file_is_read_only, free_block, free_entry, is_file}
+use Rattle.cpm_image.specs.declared.directory.entry.Entry.{Entry}
+use Rattle.cpm_image.specs.declared.directory.entry.TheConstants.{USERS}
+use Rattle.cpm_image.specs.declared.directory.fault.DiskFault.{DiskFault}
+use Rattle.cpm_image.specs.declared.directory.fault.DiskFault.TheVariants as fault
+use Rattle.cpm_image.specs.Directory.Entries.{block, is_extent_of, is_of, new_extent, with_record}
+use Rattle.cpm_image.specs.Directory.Rules.{IsSound}
+use Rattle.cpm_image.specs.Directory.Searches.{file_is_read_only, free_block, free_entry, is_file}
 use Rattle.cpm_disk.specs.Steps.{◌>>=◌, block_place, extent_place, found_or_new, some_or, unless, writing}
 use Rattle.cpm_disk.specs.declared.placement.Placement.{Placement}
 use Rattle.cpm_disk.proofs.Results.{unless_ok}

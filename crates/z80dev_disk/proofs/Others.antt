@@ -6,11 +6,11 @@ use Rattle.std.proofs.lemmas.List.{get_or_default, length-map}
 use Rattle.std.proofs.lemmas.List.Folds.{list_any_none}
 use Rattle.cpm_image.specs.Kind.{entry_count}
 use Rattle.cpm_image.specs.declared.kind.DiskKind.{DiskKind}
-use Rattle.cpm_directory.proofs.Bytes.{letters-letters}
-use Rattle.cpm_directory.specs.declared.entry.Entry.{Entry}
-use Rattle.cpm_directory.specs.Entries.{at, blank, extent_number, is_extent_of, is_match, is_of, is_read_only, is_system}
-use Rattle.cpm_directory.specs.Letters.{byte_matches, letters, name_matches}
-use Rattle.cpm_directory.specs.Searches.{is_file}
+use Rattle.cpm_image.proofs.EntryBytes.{letters-letters}
+use Rattle.cpm_image.specs.declared.directory.entry.Entry.{Entry}
+use Rattle.cpm_image.specs.Directory.Entries.{at, blank, extent_number, is_extent_of, is_match, is_of, is_read_only, is_system}
+use Rattle.cpm_image.specs.Directory.Letters.{byte_matches, letters, name_matches}
+use Rattle.cpm_image.specs.Directory.Searches.{is_file}
 use Rattle.cpm_disk.proofs.Entries.{of_file}
 use Rattle.cpm_disk.proofs.Attributes.{none_with}
 use Rattle.cpm_disk.proofs.Places.{length_directory}

@@ -5,7 +5,7 @@ use Rattle.std.proofs.Math.Seq.{take-add}
 use Rattle.std.proofs.lemmas.Bool.{cases_eq}
 use Rattle.std.proofs.lemmas.List.{append_assoc, append-nil, length-drop, length-take-le, take-append-drop, take_all}
 use Rattle.cpm_image.specs.declared.kind.DiskKind.{DiskKind}
-use Rattle.cpm_directory.specs.Searches.{size}
+use Rattle.cpm_image.specs.Directory.Searches.{size}
 use Rattle.cpm_disk.specs.Image.{Image, directory}
 use Rattle.z80dev_disk.specs.Disks.{one_file}
 use Rattle.z80dev_disk.specs.Get.{copied_record, copied_below, got}

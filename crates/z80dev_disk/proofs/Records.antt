@@ -3,9 +3,9 @@ use Rattle.std.proofs.Common.{◌≡◌, ◌<◌, ◌≤◌, ◌+◌, ◌-◌, �
 use Rattle.std.proofs.lemmas.Bool.{cases_eq, cases_lt, le-ltb}
 use Rattle.cpm_image.specs.Kind.{block_records}
 use Rattle.cpm_image.specs.declared.kind.DiskKind.{DiskKind}
-use Rattle.cpm_directory.specs.declared.entry.Entry.{Entry}
-use Rattle.cpm_directory.specs.Entries.{block, has_record, is_extent_of, place_on_disk}
-use Rattle.cpm_directory.specs.Searches.{file_is_read_only, file_is_system}
+use Rattle.cpm_image.specs.declared.directory.entry.Entry.{Entry}
+use Rattle.cpm_image.specs.Directory.Entries.{block, has_record, is_extent_of, place_on_disk}
+use Rattle.cpm_image.specs.Directory.Searches.{file_is_read_only, file_is_system}
 use Rattle.cpm_disk.specs.Files.{HasRecord, IsNewFile, block_record, count_of, file_record, in_block}
 use Rattle.cpm_disk.specs.Image.{Image, directory, disk_record}
 use Rattle.z80dev_disk.specs.Put.{record_to_put}

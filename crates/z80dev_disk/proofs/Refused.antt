@@ -6,12 +6,12 @@ use Rattle.cpm_image.specs.declared.fault.ImageFault.{ImageFault}
 use Rattle.cpm_image.specs.declared.fault.ImageFault.TheVariants as bytes
 use Rattle.cpm_image.specs.declared.kind.DiskKind.{DiskKind}
 use Rattle.cpm_image.specs.declared.kind.DiskKind.TheVariants.{EightInch, Megabyte}
-use Rattle.cpm_directory.specs.declared.fault.DiskFault.{DiskFault}
-use Rattle.cpm_directory.specs.declared.fault.DiskFault.TheVariants as fault
+use Rattle.cpm_image.specs.declared.directory.fault.DiskFault.{DiskFault}
+use Rattle.cpm_image.specs.declared.directory.fault.DiskFault.TheVariants as fault
 use Rattle.cpm_disk.specs.Image.{Image}
 use Rattle.cpm_disk.specs.Mounting.{IsMountFault, RefusesMount}
-use Rattle.z80dev_finish.specs.Answers as finish
-use Rattle.z80dev_finish.specs.declared.answer.Answer as made
+use Rattle.host.specs.Answers as finish
+use Rattle.host.specs.declared.answer.Answer as made
 use Rattle.z80dev_disk.specs.Disks.{Edited, IsDisk, IsDiskRefusal, OfDisk, UnlessMemory, refused}
 use Rattle.z80dev_disk.specs.Private.{IsAnswered, answer_at, refusal_at}
 use Rattle.z80dev_disk.specs.Refusals.{IsRefusalOf, RefusesNone, WithName, of_disk, of_image}

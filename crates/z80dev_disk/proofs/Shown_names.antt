@@ -2,7 +2,7 @@
 use Rattle.std.proofs.Common.{◌≡◌, ◌<◌, ◌+◌, ◌==◌, ◌&&◌, ℕ, suc, false, not, IsAscii, List, [], ◌∷◌, ◌++◌, codes, drop, get_or, length, take, refl, sym, ap, subst, ◌∙◌, inl, inr, arith, ne_eqb}
 use Rattle.std.proofs.lemmas.Bool.{cases_lt}
 use Rattle.std.proofs.lemmas.List.{get_or-drop, get_or-take, get_or_past, length-take}
-use Rattle.cpm_directory.specs.Letters.{letters}
+use Rattle.cpm_image.specs.Directory.Letters.{letters}
 use Rattle.cpm_disk.proofs.Attributes.{low_byte}
 use Rattle.z80dev_disk.specs.Names.{host_name, trimmed, when}
 

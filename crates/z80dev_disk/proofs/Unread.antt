@@ -3,11 +3,11 @@ use Rattle.std.proofs.Common.{◌≡◌, ◌<◌, ◌/◌, ◌%◌, ℕ, true, f
 use Rattle.std.proofs.lemmas.Bool.{cases_Bool}
 use Rattle.cpm_image.specs.Kind.{file_records}
 use Rattle.cpm_image.specs.declared.kind.DiskKind.{DiskKind}
-use Rattle.cpm_directory.specs.declared.entry.Entry.{Entry}
-use Rattle.cpm_directory.specs.declared.fault.DiskFault.{DiskFault}
-use Rattle.cpm_directory.specs.declared.fault.DiskFault.TheVariants as fault
-use Rattle.cpm_directory.specs.Entries.{has_record, is_extent_of, place_on_disk}
-use Rattle.cpm_directory.specs.Searches.{is_file}
+use Rattle.cpm_image.specs.declared.directory.entry.Entry.{Entry}
+use Rattle.cpm_image.specs.declared.directory.fault.DiskFault.{DiskFault}
+use Rattle.cpm_image.specs.declared.directory.fault.DiskFault.TheVariants as fault
+use Rattle.cpm_image.specs.Directory.Entries.{has_record, is_extent_of, place_on_disk}
+use Rattle.cpm_image.specs.Directory.Searches.{is_file}
 use Rattle.cpm_disk.specs.Steps.{◌>>=◌, some_or, reading, unless, written_place}
 use Rattle.cpm_disk.specs.Calls.{Mounted}
 use Rattle.cpm_disk.specs.Files.{file_record, in_block}

@@ -2,13 +2,13 @@
 use Rattle.std.specs.Prelude.{◌≡◌, ℕ, Bool, true, ◌&&◌, List, Result, Ok, Err, Vec, find, option_map, unwrap_or}
 use Rattle.std.specs.Global.{Global}
 use Rattle.cpm_image.specs.declared.kind.DiskKind.{DiskKind}
-use Rattle.cpm_directory.specs.Entries.{is_match, is_read_only}
-use Rattle.cpm_directory.specs.Letters.{letters, name_matches}
-use Rattle.cpm_directory.specs.Rules.{IsSound}
-use Rattle.cpm_directory.specs.declared.attribute.Attribute.{Attribute}
-use Rattle.cpm_directory.specs.declared.entry.Entry.{Entry}
-use Rattle.cpm_directory.specs.declared.fault.DiskFault.{DiskFault}
-use Rattle.cpm_directory.specs.declared.fault.DiskFault.TheVariants as fault
+use Rattle.cpm_image.specs.Directory.Entries.{is_match, is_read_only}
+use Rattle.cpm_image.specs.Directory.Letters.{letters, name_matches}
+use Rattle.cpm_image.specs.Directory.Rules.{IsSound}
+use Rattle.cpm_image.specs.declared.directory.attribute.Attribute.{Attribute}
+use Rattle.cpm_image.specs.declared.directory.entry.Entry.{Entry}
+use Rattle.cpm_image.specs.declared.directory.fault.DiskFault.{DiskFault}
+use Rattle.cpm_image.specs.declared.directory.fault.DiskFault.TheVariants as fault
 use Rattle.cpm_disk.specs.Steps.{after_erasure, after_marking, after_renaming, erasure, marking, renaming}
 use Rattle.cpm_disk.specs.Calls.{Changed}
 use Rattle.cpm_disk.specs.Files.{IsEither, IsMarkedFile, IsMatched, IsMoved, IsNoFile, OthersAreSame}

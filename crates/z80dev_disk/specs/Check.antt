@@ -5,11 +5,11 @@ use Rattle.cpm_image.specs.Image.{IsImageOf}
 use Rattle.cpm_image.specs.Kind.{sector_count}
 use Rattle.cpm_image.specs.declared.fault.ImageFault.{ImageFault}
 use Rattle.cpm_image.specs.declared.kind.DiskKind.{DiskKind}
-use Rattle.cpm_directory.specs.Letters.{letters}
-use Rattle.cpm_directory.specs.Rules.{AreBroken}
-use Rattle.cpm_directory.specs.declared.broken.Broken.{Broken}
+use Rattle.cpm_image.specs.Directory.Letters.{letters}
+use Rattle.cpm_image.specs.Directory.Rules.{AreBroken}
+use Rattle.cpm_image.specs.declared.directory.broken.Broken.{Broken}
 use Rattle.cpm_disk.specs.Image.{Image, directory}
-use Rattle.z80dev_finish.specs.Answers as finish
+use Rattle.host.specs.Answers as finish
 use Rattle.z80dev_disk.specs.Disks.{refused}
 use Rattle.z80dev_disk.specs.Names.{trimmed}
 use Rattle.z80dev_disk.specs.Refusals.{disk_name, refusal_text}

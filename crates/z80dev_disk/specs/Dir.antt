@@ -3,14 +3,14 @@ use Rattle.std.specs.Prelude.{◌≡◌, ℕ, ◌*◌, ◌==◌, Bool, true, ◌
 use Rattle.std.specs.List.{concat, flat_map}
 use Rattle.cpm_image.specs.declared.format.TheConstants.{RECORD_BYTES}
 use Rattle.cpm_image.specs.declared.kind.DiskKind.{DiskKind}
-use Rattle.cpm_directory.specs.Letters.{name_matches}
-use Rattle.cpm_directory.specs.Searches.{IsListing, space_of, usage_of}
-use Rattle.cpm_directory.specs.declared.count.Space.{Space}
-use Rattle.cpm_directory.specs.declared.count.Usage.{Usage}
-use Rattle.cpm_directory.specs.declared.fault.DiskFault.TheVariants as fault
-use Rattle.cpm_directory.specs.declared.listing.Listed.{Listed}
+use Rattle.cpm_image.specs.Directory.Letters.{name_matches}
+use Rattle.cpm_image.specs.Directory.Searches.{IsListing, space_of, usage_of}
+use Rattle.cpm_image.specs.declared.directory.count.Space.{Space}
+use Rattle.cpm_image.specs.declared.directory.count.Usage.{Usage}
+use Rattle.cpm_image.specs.declared.directory.fault.DiskFault.TheVariants as fault
+use Rattle.cpm_image.specs.declared.directory.listing.Listed.{Listed}
 use Rattle.cpm_disk.specs.Image.{Image, directory}
-use Rattle.z80dev_finish.specs.Answers as finish
+use Rattle.host.specs.Answers as finish
 use Rattle.z80dev_disk.specs.Disks.{OfDisk, refused}
 use Rattle.z80dev_disk.specs.Names.{trimmed, when}
 use Rattle.z80dev_disk.specs.declared.listing.Asked.{Asked}

@@ -5,12 +5,12 @@ use Rattle.std.specs.List.{concat}
 use Rattle.cpm_image.specs.Image.{IsImageOf}
 use Rattle.cpm_image.specs.Kind.{sector_count}
 use Rattle.cpm_image.specs.declared.kind.DiskKind.{DiskKind}
-use Rattle.cpm_directory.specs.Rules.{IsFirstFault, IsSound}
+use Rattle.cpm_image.specs.Directory.Rules.{IsFirstFault, IsSound}
 use Rattle.cpm_disk.specs.Calls.{Mounted}
 use Rattle.cpm_disk.specs.Image.{Image, directory}
-use Rattle.z80dev_finish.specs.Answers as finish
-use Rattle.z80dev_finish.specs.declared.answer.Answer as made
-use Rattle.z80dev_finish.specs.declared.answer.Kind.TheVariants as kind
+use Rattle.host.specs.Answers as finish
+use Rattle.host.specs.declared.answer.Answer as made
+use Rattle.host.specs.declared.answer.Kind.TheVariants as kind
 use Rattle.z80dev_disk.specs.Refusals.{IsRefusalOf, RefusesNone, refusal_text}
 use Rattle.z80dev_disk.specs.declared.refusal.Refusal.{Refusal}
 use Rattle.z80dev_disk.specs.declared.refusal.Refusal.TheVariants as refusal

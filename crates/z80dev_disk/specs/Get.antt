@@ -4,12 +4,12 @@ use Rattle.std.specs.Global.{Global}
 use Rattle.std.specs.List.{flat_map, range_with_len}
 use Rattle.cpm_image.specs.declared.format.TheConstants.{RECORD_BYTES}
 use Rattle.cpm_image.specs.declared.kind.DiskKind.{DiskKind}
-use Rattle.cpm_directory.specs.Searches.{IsListing, size}
-use Rattle.cpm_directory.specs.declared.fault.DiskFault.TheVariants as fault
-use Rattle.cpm_directory.specs.declared.listing.Listed.{Listed}
+use Rattle.cpm_image.specs.Directory.Searches.{IsListing, size}
+use Rattle.cpm_image.specs.declared.directory.fault.DiskFault.TheVariants as fault
+use Rattle.cpm_image.specs.declared.directory.listing.Listed.{Listed}
 use Rattle.cpm_disk.specs.Files.{file_record}
 use Rattle.cpm_disk.specs.Image.{Image, directory}
-use Rattle.z80dev_finish.specs.Answers as finish
+use Rattle.host.specs.Answers as finish
 use Rattle.z80dev_disk.specs.Dir.{is_asked}
 use Rattle.z80dev_disk.specs.Disks.{IsDisk, IsDiskRefusal, OfDisk, UnlessMemory, one_file, refused}
 use Rattle.z80dev_disk.specs.Names.{host_name, is_host_name}

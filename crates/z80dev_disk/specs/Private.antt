@@ -2,13 +2,13 @@
 use Rattle.std.specs.Prelude.{◌≡◌, ◌<◌, IfSome, ℕ, List, Option, Some, Result, Ok, Err, filter, length}
 use Rattle.cpm_image.specs.Kind.{entry_count}
 use Rattle.cpm_image.specs.declared.kind.DiskKind.{DiskKind}
-use Rattle.cpm_directory.specs.Entries.{at}
-use Rattle.cpm_directory.specs.Searches.{IsListing}
-use Rattle.cpm_directory.specs.declared.fault.DiskFault.{DiskFault}
-use Rattle.cpm_directory.specs.declared.listing.Listed.{Listed}
+use Rattle.cpm_image.specs.Directory.Entries.{at}
+use Rattle.cpm_image.specs.Directory.Searches.{IsListing}
+use Rattle.cpm_image.specs.declared.directory.fault.DiskFault.{DiskFault}
+use Rattle.cpm_image.specs.declared.directory.listing.Listed.{Listed}
 use Rattle.cpm_disk.specs.Image.{Image, directory}
-use Rattle.z80dev_finish.specs.Answers as finish
-use Rattle.z80dev_finish.specs.declared.answer.Answer as made
+use Rattle.host.specs.Answers as finish
+use Rattle.host.specs.declared.answer.Answer as made
 use Rattle.z80dev_disk.specs.declared.refusal.Refusal.{Refusal}
 use Rattle.z80dev_disk.specs.declared.refusal.Refusal.TheVariants as refusal
 use Rattle.z80dev_disk.specs.Dir.{is_asked}

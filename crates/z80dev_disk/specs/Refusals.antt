@@ -1,9 +1,9 @@
 -- Why a command on an image is refused, and how it is printed: by the name of the innermost variant, with a file's name in parentheses.
 use Rattle.std.specs.Prelude.{◌≡◌, ◌≢◌, ◌⊎◌, ℕ, Bool, true, false, List, ◌++◌, Option, Some, codes, ⊤}
-use Rattle.cpm_directory.specs.declared.fault.DiskFault.{DiskFault}
-use Rattle.cpm_directory.specs.declared.fault.DiskFault.TheVariants as fault
-use Rattle.cpm_directory.specs.Letters.{letters}
-use Rattle.cpm_directory.specs.Rules.{IsRuleFault}
+use Rattle.cpm_image.specs.declared.directory.fault.DiskFault.{DiskFault}
+use Rattle.cpm_image.specs.declared.directory.fault.DiskFault.TheVariants as fault
+use Rattle.cpm_image.specs.Directory.Letters.{letters}
+use Rattle.cpm_image.specs.Directory.Rules.{IsRuleFault}
 use Rattle.cpm_image.specs.declared.fault.ImageFault.{ImageFault}
 use Rattle.cpm_image.specs.declared.fault.ImageFault.TheVariants as bytes
 use Rattle.z80dev_disk.specs.Names.{host_name}

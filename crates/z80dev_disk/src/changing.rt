@@ -1,7 +1,7 @@
 //! Erases, renames and marks files of a disk.
 
 ghost use Rattle.std.specs.Prelude.{◌≡◌, ◌<◌, IfErr, OnOk, false};
-ghost use Rattle.cpm_directory.specs.declared.entry.TheConstants.{USERS};
+ghost use Rattle.cpm_image.specs.declared.directory.entry.TheConstants.{USERS};
 ghost use Rattle.cpm_disk.specs.Refusals.{RefusesErasure, RefusesMarking, RefusesRenaming};
 ghost use Rattle.z80dev_disk.specs.Along.{Along, IsRefusedAlong};
 ghost use Rattle.z80dev_disk.specs.Changes.{Erases, IsErasedImage, IsMarkedImage, IsRenamedImage, Marks, StopsErasing, StopsMarking, refused_name, pattern_itself};
@@ -11,9 +11,8 @@ ghost use Rattle.z80dev_disk.specs.Refusals.{IsRefusalOf, WithName, WithoutName}
 use crate::entries::{of_any_extent, read_only_name};
 use crate::image::{disk_of, image_bytes};
 use crate::refusal::Refusal;
-use cpm_directory::{Attribute, DiskFault, Name};
 use cpm_disk::Disk;
-use cpm_image::MemoryImage;
+use cpm_image::{Attribute, DiskFault, MemoryImage, Name};
 use std::alloc::Global;
 
 /// The name that is reported with a refusal: for a read-only file the name in the first matching entry that is read-only, otherwise the

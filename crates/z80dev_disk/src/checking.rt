@@ -2,7 +2,7 @@
 
 ghost use Rattle.std.specs.Prelude.{◌≡◌, IfOk, IfSome};
 ghost use Rattle.std.specs.List.{flat_map};
-ghost use Rattle.z80dev_finish.specs.Answers.{MemoryAside};
+ghost use Rattle.host.specs.Answers.{MemoryAside};
 ghost use Rattle.z80dev_disk.specs.Check.{IsCheck, broken_line, checked, first_broken_rule};
 ghost use Rattle.z80dev_disk.specs.Disks.{disk_answer};
 ghost use Rattle.z80dev_disk.specs.Private.{IsAnswered};
@@ -11,11 +11,10 @@ ghost use Rattle.z80dev_disk.specs.Refusals.{IsRefusalOf, RefusesNone};
 use crate::image::answered;
 use crate::refusal::{Refusal, disk_name};
 use crate::shown::{joined, trimmed};
-use cpm_directory::{Broken, Name};
 use cpm_disk::faults_of;
-use cpm_image::MemoryImage;
+use cpm_image::{Broken, MemoryImage, Name};
+use host::Answer;
 use std::alloc::{AllocError, Global};
-use z80dev_finish::Answer;
 
 /// The line of an entry that breaks a rule: `NUMBER USER NAME.TYP RULE`.
 fn broken_line(alloc: Global, broken: &Broken) -> Result<Vec<u8>, AllocError>

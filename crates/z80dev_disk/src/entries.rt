@@ -2,14 +2,13 @@
 
 ghost use Rattle.std.specs.Prelude.{◌≡◌, ◌&&◌, ◌<◌, false};
 ghost use Rattle.cpm_image.specs.Kind.{entry_count};
-ghost use Rattle.cpm_directory.specs.Entries.{at, is_match, is_read_only};
+ghost use Rattle.cpm_image.specs.Directory.Entries.{at, is_match, is_read_only};
 ghost use Rattle.cpm_disk.specs.Image.{directory};
 ghost use Rattle.z80dev_disk.specs.Changes.{first_name};
 ghost use Rattle.z80dev_disk.specs.Private.{HaveNames};
 
-use cpm_directory::{Entry, Name, Pattern};
 use cpm_disk::Disk;
-use cpm_image::MemoryImage;
+use cpm_image::{Entry, MemoryImage, Name, Pattern};
 
 /// A pattern for the entries of all extents of the files that `name` matches.
 pub(crate) fn of_any_extent(name: &[u8; 11]) -> Pattern

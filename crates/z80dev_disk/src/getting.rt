@@ -2,10 +2,10 @@
 
 ghost use Rattle.std.specs.Prelude.{◌≡◌, ◌<◌, ◌≤◌, All, IfErr, IfOk, IfSome, false, find, map, not, option_map, unwrap_or};
 ghost use Rattle.cpm_image.specs.Kind.{file_records};
-ghost use Rattle.cpm_directory.specs.declared.entry.TheConstants.{USERS};
-ghost use Rattle.cpm_directory.specs.Searches.{size};
+ghost use Rattle.cpm_image.specs.declared.directory.entry.TheConstants.{USERS};
+ghost use Rattle.cpm_image.specs.Directory.Searches.{size};
 ghost use Rattle.cpm_disk.specs.Image.{directory};
-ghost use Rattle.z80dev_finish.specs.Answers.{MemoryAside};
+ghost use Rattle.host.specs.Answers.{MemoryAside};
 ghost use Rattle.z80dev_disk.specs.Disks.{disk_answer};
 ghost use Rattle.z80dev_disk.specs.Get.{IsGet, IsGetAll, as_asked, copied_record, copied_below, gotten, host_file, refusal_of};
 ghost use Rattle.z80dev_disk.specs.Names.{is_host_name};
@@ -18,11 +18,10 @@ use crate::listing::asked_for;
 use crate::refusal::Refusal;
 use crate::shown::{HostName, is_host_name};
 use crate::text::host_text;
-use cpm_directory::{DiskFault, Listed, Name};
 use cpm_disk::Disk;
-use cpm_image::{MemoryImage, RECORD_BYTES};
+use cpm_image::{DiskFault, Listed, MemoryImage, Name, RECORD_BYTES};
+use host::Answer;
 use std::alloc::{AllocError, Global};
-use z80dev_finish::Answer;
 
 /// A file of a disk, ready to be written on the host.
 #[derive(Debug, Drop)]

@@ -9,8 +9,8 @@ ghost use Rattle.z80dev_disk.specs.Private.{answer_at, refusal_at};
 use crate::refusal::Refusal;
 use cpm_disk::Disk;
 use cpm_image::{DiskKind, MemoryImage};
+use host::{Answer, Kind, NewFile};
 use std::alloc::{AllocError, Global};
-use z80dev_finish::{Answer, Kind, NewFile};
 
 /// Mounts the image that these bytes are.
 ///

@@ -4,7 +4,7 @@ ghost use Rattle.std.specs.Prelude.{◌≡◌, ◌++◌, ◌-◌, ◌*◌, ◌==
 ghost use Rattle.std.specs.List.{list_any};
 ghost use Rattle.cpm_image.specs.declared.format.TheConstants.{RECORD_BYTES};
 ghost use Rattle.cpm_image.specs.declared.kind.DiskKind.{DiskKind};
-ghost use Rattle.cpm_directory.specs.Searches.{size};
+ghost use Rattle.cpm_image.specs.Directory.Searches.{size};
 ghost use Rattle.cpm_disk.specs.Image.{Image, directory};
 ghost use Rattle.z80dev_disk.specs.Disks.{one_file};
 ghost use Rattle.z80dev_disk.specs.Get.{got};

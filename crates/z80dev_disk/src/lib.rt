@@ -20,9 +20,9 @@ mod text;
 
 pub use changing::{erase, mark, rename};
 pub use checking::check_disk;
-pub use cpm_directory::{Attribute, DiskFault, Name};
-pub use cpm_image::{DiskKind, ImageFault};
+pub use cpm_image::{Attribute, DiskFault, DiskKind, ImageFault, Name};
 pub use getting::{Gotten, get, get_all};
+pub use host::{Answer, Kind, NewFile};
 pub use image::{blank, disk_of, one_file};
 pub use listing::{Asked, dir};
 pub use name::{file_name, own_name};
@@ -30,4 +30,3 @@ pub use pattern::{is_wild, pattern_of};
 pub use putting::{PutFile, put};
 pub use refusal::Refusal;
 pub use text::cpm_text;
-pub use z80dev_finish::{Answer, Kind, NewFile};

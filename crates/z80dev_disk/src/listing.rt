@@ -2,8 +2,8 @@
 
 ghost use Rattle.std.specs.Prelude.{◌≡◌, IfErr, IfOk, IfSome, false, filter, string_bytes};
 ghost use Rattle.std.specs.List.{flat_map};
-ghost use Rattle.cpm_directory.specs.declared.fault.DiskFault.TheVariants as fault;
-ghost use Rattle.z80dev_finish.specs.Answers.{MemoryAside};
+ghost use Rattle.cpm_image.specs.declared.directory.fault.DiskFault.TheVariants as fault;
+ghost use Rattle.host.specs.Answers.{MemoryAside};
 ghost use Rattle.z80dev_disk.specs.Dir.{IsDir, is_asked, is_named, is_users, dir_line, dir_lines, space_line, usage_text};
 ghost use Rattle.z80dev_disk.specs.Disks.{disk_answer};
 ghost use Rattle.z80dev_disk.specs.Private.{AreAsked, IsAnswered};
@@ -12,11 +12,10 @@ ghost use Rattle.z80dev_disk.specs.Refusals.{IsRefusalOf, RefusesDir};
 use crate::image::{answered, disk_of};
 use crate::refusal::Refusal;
 use crate::shown::{joined, trimmed, when};
-use cpm_directory::{DiskFault, Entry, Listed, Space, Usage};
 use cpm_disk::Disk;
-use cpm_image::{MemoryImage, RECORD_BYTES};
+use cpm_image::{DiskFault, Entry, Listed, MemoryImage, RECORD_BYTES, Space, Usage};
+use host::Answer;
 use std::alloc::{AllocError, Global};
-use z80dev_finish::Answer;
 
 /// Which files are listed, and how.
 #[derive(Clone, Copy, Debug)]

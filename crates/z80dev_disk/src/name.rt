@@ -4,7 +4,7 @@ ghost use Rattle.std.specs.Prelude.{◌≡◌, ◌++◌, ◌≤◌, IfSome, fals
 ghost use Rattle.std.specs.List.{list_all};
 ghost use Rattle.z80dev_disk.specs.Words.{before_point, behind_point, padded, is_file_name, is_name_byte, is_name_part, is_wild, last_part, file_name_of, own_name, point_at};
 
-use cpm_directory::Name;
+use cpm_image::Name;
 
 /// No name has these printable characters.
 const LEFT_OUT: &[u8] = b"<>.,;:=?*[]";

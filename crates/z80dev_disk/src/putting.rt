@@ -1,11 +1,11 @@
 //! Puts files on a disk.
 
 ghost use Rattle.std.specs.Prelude.{◌≡◌, ◌<◌, ◌≤◌, All, IfErr, MatchOption, OnOk, drop, false, length, map, take, true};
-ghost use Rattle.cpm_directory.specs.declared.entry.TheConstants.{USERS};
+ghost use Rattle.cpm_image.specs.declared.directory.entry.TheConstants.{USERS};
 ghost use Rattle.cpm_disk.specs.Files.{IsFile, OthersAreSame};
 ghost use Rattle.cpm_disk.specs.Image.{directory};
-ghost use Rattle.cpm_directory.specs.Searches.{is_file};
-ghost use Rattle.cpm_directory.specs.declared.fault.DiskFault.TheVariants as fault;
+ghost use Rattle.cpm_image.specs.Directory.Searches.{is_file};
+ghost use Rattle.cpm_image.specs.declared.directory.fault.DiskFault.TheVariants as fault;
 ghost use Rattle.z80dev_disk.specs.Along.{Along, IsRefusedAlong};
 ghost use Rattle.z80dev_disk.specs.Private.{IsRefusedAt};
 ghost use Rattle.z80dev_disk.specs.Put.{IsPutImage, IsStopped, IsStored, LacksRoom, MakesRoom, PutsOne, StopsOne, named_file, padded_record, is_replaced, name_of_file};
@@ -15,9 +15,8 @@ ghost use Rattle.z80dev_disk.specs.Words.{is_wild};
 use crate::entries::{has_names, of_any_extent};
 use crate::image::{disk_of, image_bytes};
 use crate::refusal::Refusal;
-use cpm_directory::{DiskFault, Name};
 use cpm_disk::Disk;
-use cpm_image::{MemoryImage, RECORD_BYTES};
+use cpm_image::{DiskFault, MemoryImage, Name, RECORD_BYTES};
 use std::alloc::Global;
 
 /// Pads the last record of a file. CP/M takes it as the end of a text.

@@ -5,8 +5,7 @@ ghost use Rattle.z80dev_disk.specs.Refusals.{disk_name, image_name, of_disk, of_
 ghost use Rattle.z80dev_disk.specs.declared.refusal.Refusal.TheVariants as refusal;
 
 use crate::shown::HostName;
-use cpm_directory::DiskFault;
-use cpm_image::ImageFault;
+use cpm_image::{DiskFault, ImageFault};
 use std::alloc::{AllocError, AllocFailed};
 use std::fmt;
 

@@ -4,7 +4,7 @@ ghost use Rattle.std.specs.Prelude.{◌≡◌, ◌==◌, IfOk, IsAscii, codes, l
 ghost use Rattle.std.specs.List.{flat_map, list_all};
 ghost use Rattle.z80dev_disk.specs.Names.{host_name, is_host_byte, is_host_name, trimmed, when};
 
-use cpm_directory::Name;
+use cpm_image::Name;
 use std::alloc::{AllocError, Global};
 use std::{fmt, str};
 
@@ -94,7 +94,7 @@ pub(crate) struct HostName {
 
 impl fmt::Display for HostName {
     ghost use Rattle.std.specs.Prelude.{Some};
-    ghost use Rattle.cpm_directory.specs.Letters.{letters};
+    ghost use Rattle.cpm_image.specs.Directory.Letters.{letters};
     ghost use Rattle.z80dev_disk.specs.Names.{host_name};
 
     ghost output = { λ shown. Some (host_name (letters shown.name)) };

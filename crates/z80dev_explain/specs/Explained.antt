@@ -1,24 +1,24 @@
 -- What `explain` answers for sources.
 use Rattle.std.specs.Prelude.{◌≡◌, ◌<◌, ℕ, ◌+◌, Bool, true, false, List, [], Result, Ok, Err, is_ok, length, map}
 use Rattle.std.specs.List.{AllZip, list_any, sum_by}
-use Rattle.shared_lines.specs.Front.{CountsLines, front_lines}
+use Rattle.report_texts.specs.Front.{CountsLines, front_lines}
 use Rattle.zlink.specs.Built.{IsBuilt}
 use Rattle.zlink.specs.declared.building.Built.{Built}
 use Rattle.zlink.specs.declared.fault.BuildFault.{BuildFault}
 use Rattle.zlink.specs.declared.fault.BuildFault.TheVariants as build
 use Rattle.zlink.specs.declared.source.Source.{Source}
-use Rattle.shared_lines.specs.Behind.{IsBehind}
-use Rattle.shared_lines.specs.Shared.{UnlessFaulty}
-use Rattle.shared_lines.specs.declared.front.SourceFile.{SourceFile}
-use Rattle.shared_lines.specs.declared.front.Front.{Front}
+use Rattle.report_texts.specs.Behind.{IsBehind}
+use Rattle.report_texts.specs.Shared.{UnlessFaulty}
+use Rattle.report_texts.specs.declared.front.SourceFile.{SourceFile}
+use Rattle.report_texts.specs.declared.front.Front.{Front}
 use Rattle.report_texts.specs.declared.report.Report.{Report}
 use Rattle.asm_module.specs.declared.fault.AsmFault.{AsmFault}
 use Rattle.report_texts.specs.Repeats.{HasNoRepeats, without_repeats}
 use Rattle.report_texts.specs.Reports.{bears_name}
 use Rattle.link_errors.specs.Names.{link_name}
-use Rattle.program_warnings.specs.Counts.{HasWarnings, warning_count}
-use Rattle.program_warnings.specs.Longs.{AreLongNotes}
-use Rattle.zmo_module.specs.Modules.{module_of}
+use Rattle.link_errors.specs.Counts.{HasWarnings, warning_count}
+use Rattle.link_errors.specs.Longs.{AreLongNotes}
+use Rattle.zmo_object.specs.Modules.{module_of}
 use Rattle.z80dev_explain.specs.Reports.{is_report_of}
 
 -- Sources after a front have this number of warnings in their own lines.

@@ -1,7 +1,7 @@
 -- What the command `explain` says of sources.
 use Rattle.std.specs.Prelude.{◌≡◌, ℕ, Bool, true, false, ◌==◌, List, [], ◌++◌, Option, None, Some, codes, decimal, if◌then◌else◌, length}
-use Rattle.shared_lines.specs.declared.front.SourceFile.{SourceFile}
-use Rattle.shared_lines.specs.declared.front.Front.{Front}
+use Rattle.report_texts.specs.declared.front.SourceFile.{SourceFile}
+use Rattle.report_texts.specs.declared.front.Front.{Front}
 use Rattle.z80dev_explain.specs.Explained.{IsExplained}
 use Rattle.report_texts.specs.Json.{IsPrinted}
 use Rattle.z80dev_explain.specs.declared.explaining.Asked.{Asked}

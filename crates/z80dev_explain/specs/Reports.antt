@@ -2,7 +2,7 @@
 use Rattle.std.specs.Prelude.{ℕ, Bool, ◌&&◌, string_bytes}
 use Rattle.std.specs.Str.{bytes_eq}
 use Rattle.asm_module.specs.declared.fault.AsmFault.{AsmFault}
-use Rattle.shared_lines.specs.Faults.Names.{why_name}
+use Rattle.report_texts.specs.Faults.Names.{why_name}
 use Rattle.report_texts.specs.declared.report.Report.{Report}
 use Rattle.report_texts.specs.Reports.{is_error, is_in_line}
 

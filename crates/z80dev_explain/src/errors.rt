@@ -6,16 +6,14 @@ ghost use Rattle.z80dev_explain.specs.Reports.{is_report_of};
 
 use crate::adapting::{overlong, with_shared};
 use crate::gathering::{Found, Gathered};
-use asm_line::{BlockWord, Head, form_of, names};
+use asm_line::{BlockWord, Head, ScanFault, form_of, names, tokens};
 use asm_macro::MacroFault;
 use asm_module::{AsmFault, StmtFault, Why};
-use asm_scan::{ScanFault, tokens};
 use common::{LONGEST_TEXT, NameKey};
 use error_messages::{
     Before, Message, Note, Place, SourceLines, empty_parameter, message, opener_of,
 };
-use report_texts::{Report, Severity, Where};
-use shared_lines::why_name;
+use report_texts::{Report, Severity, Where, in_its_line, why_name};
 use source_errors::{Finding, Findings, Known, find_errors};
 use std::alloc::{AllocError, Global};
 use written_lines::{
@@ -91,22 +89,33 @@ impl<'s, 'f> Faulty<'s, 'f> {
             at: Some(at),
             text: site.own_text(alloc, &message.text)?,
             name: String::from_str(alloc, why_name(finding.why))?,
-            about: self.about(finding, site)?,
             notes: all,
         })
     }
 
-    /// What an error is about: a name, in upper case; or if that is not known, its line with the arguments of the calls. Names that LOCAL makes are
-    /// as the body has them, since each source gets others.
-    fn about(&self, finding: &Finding, site: Site<'_>) -> Result<Vec<u8>, AllocError> {
-        match &finding.name {
-            Some(name) => site.own_bytes(self.alloc, name),
-            None => site.own_bytes(self.alloc, &finding.text),
+    /// Answers what is said of an error, if its line is in the front: that tells whether an earlier source has the same error. Otherwise nothing.
+    fn shared_text(
+        &self,
+        finding: &Finding,
+        site: Site<'_>,
+        gathered: &Gathered,
+    ) -> Result<String, AllocError> {
+        let alloc = self.alloc;
+        if !gathered.is_front_line(site.line) {
+            return Ok(String::new(alloc));
         }
+        let message = message(alloc, &self.text, finding, self.known.as_ref())?;
+        let message = self.adapted(finding, message)?;
+        site.own_text(alloc, &message.text)
     }
 
-    /// Answers the report of an error without what it says: only where the error is, its name, and the name that it is about.
-    fn counted(&self, finding: &Finding, site: Site<'_>) -> Result<Report, AllocError> {
+    /// Answers the report of an error that is only counted: where the error is, its name, and what tells it from others of its line.
+    fn counted(
+        &self,
+        finding: &Finding,
+        site: Site<'_>,
+        gathered: &Gathered,
+    ) -> Result<Report, AllocError> {
         let alloc = self.alloc;
         Ok(Report {
             severity: Severity::Error,
@@ -118,9 +127,8 @@ impl<'s, 'f> Faulty<'s, 'f> {
                 text: Vec::new(alloc),
                 place: Place { at: 0, len: 0 },
             }),
-            text: String::new(alloc),
+            text: self.shared_text(finding, site, gathered)?,
             name: String::from_str(alloc, why_name(finding.why))?,
-            about: self.about(finding, site)?,
             notes: Vec::new(alloc),
         })
     }
@@ -169,11 +177,27 @@ impl<'s, 'f> Faulty<'s, 'f> {
         })
     }
 
-    /// Answers the report that a source has too many bytes, in its first line after the front. Building finds that in the first line of all.
+    /// The line in which it is reported that a source has too many bytes, and the one by which building reports it. For a source after a front that
+    /// is its first line, though the assembler finds the error in the first line of all; a front by itself has the error in the line with the first
+    /// byte too many.
+    fn overlong_lines(&self, finding: &Finding, reported: u32) -> (u32, u32) {
+        if !self.sources.files.is_empty() {
+            return (self.sources.after_front(1), reported);
+        }
+        let fault = AsmFault {
+            line: reported,
+            why: finding.why,
+        };
+        let AsmFault { line, .. } = in_its_line(self.sources.text(self.source), fault);
+        (line, line)
+    }
+
+    /// Answers the report that a source has too many bytes.
     fn report_overlong(&self, finding: &Finding, first: Site<'_>) -> Result<Report, AllocError> {
-        let line = self.sources.after_front(1);
+        let (line, reported) = self.overlong_lines(finding, first.reported);
         let moved = self.moved(finding, line)?;
         let site = Site {
+            reported,
             line,
             text: &moved.text,
             ..first
@@ -280,9 +304,9 @@ impl<'s, 'f> Faulty<'s, 'f> {
         Ok(())
     }
 
-    /// Where the line of an error is written.
-    fn site<'e>(&'e self, group: &Group, finding: &'e Finding) -> Site<'e> {
-        let found = match (&self.traces.whole, group.traced) {
+    /// Where the line of an error is written, which is this line of the expansion if it is not as it is written.
+    fn site<'e>(&'e self, traced: Option<usize>, finding: &'e Finding) -> Site<'e> {
+        let found = match (&self.traces.whole, traced) {
             (Some(trace), Some(at)) => Site::traced(trace, at, finding.number),
             _ => None,
         };
@@ -327,7 +351,7 @@ impl<'s, 'f> Faulty<'s, 'f> {
                 return self.report_found(group, &stopped, site);
             }
         }
-        self.report_found(group, finding, self.site(group, finding))
+        self.report_found(group, finding, self.site(group.traced, finding))
     }
 
     /// Answers the report of an error, in the line in which it is written.
@@ -408,7 +432,7 @@ impl<'s, 'f> Faulty<'s, 'f> {
         };
         let text = finding.text.as_slice();
         let site = Site { text, ..site };
-        let counted = self.counted(&finding, site)?;
+        let counted = self.counted(&finding, site, gathered)?;
         if !gathered.is_new(self.alloc, &counted)? {
             return Ok(());
         }
@@ -434,23 +458,48 @@ impl<'s, 'f> Faulty<'s, 'f> {
         Ok(())
     }
 
-    /// Appends the report of an error at which the expansion does not stop.
-    fn put_group(
+    /// Appends the report of one time that an error occurs, unless an earlier source has the same error. Answers whether it is appended.
+    fn put_time(
         &self,
         group: &Group,
         finding: &Finding,
+        site: Site<'_>,
         gathered: &mut Gathered,
-    ) -> Result<(), AllocError> {
-        let counted = self.counted(finding, self.site(group, finding))?;
+    ) -> Result<bool, AllocError> {
+        let counted = self.counted(finding, site, gathered)?;
         if !gathered.is_new(self.alloc, &counted)? {
-            return Ok(());
+            return Ok(false);
         }
         let report = if gathered.takes_room(Found::Assembled) {
-            self.report_group(group, finding)?
+            self.report_found(group, finding, site)?
         } else {
             counted
         };
-        gathered.push(report)
+        gathered.push(report)?;
+        Ok(true)
+    }
+
+    /// Appends the report of an error at which the expansion does not stop. If an earlier source has the same error, the report is of a call with
+    /// other arguments for which the message differs, if there is one.
+    fn put_group<'x>(
+        &'x self,
+        findings: &'x [Finding],
+        group: &Group,
+        finding: &'x Finding,
+        gathered: &mut Gathered,
+    ) -> Result<(), AllocError> {
+        if self.put_time(group, finding, self.site(group.traced, finding), gathered)? {
+            return Ok(());
+        }
+        for again in &group.differing {
+            if let Some(finding) = findings.get(again.finding) {
+                let site = self.site(again.traced, finding);
+                if self.put_time(group, finding, site, gathered)? {
+                    return Ok(());
+                }
+            }
+        }
+        Ok(())
     }
 
     /// Appends the reports of errors.
@@ -465,7 +514,8 @@ impl<'s, 'f> Faulty<'s, 'f> {
                 Some(finding) if is_stop(group, finding) => {
                     self.put_stop(group, finding, gathered)?
                 }
-                Some(finding) => self.put_group(group, finding, gathered)?,
+                // Lent again, since the findings are asked for as long as the source.
+                Some(finding) => (&*self).put_group(&*findings, group, finding, gathered)?,
                 None => (),
             }
         }

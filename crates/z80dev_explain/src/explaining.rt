@@ -2,13 +2,13 @@
 
 ghost use Rattle.std.specs.Prelude.{◌≡◌, ◌<◌, ◌+◌, ℕ, All, IfOk, List, Ok, length, map, option_copied, true};
 ghost use Rattle.std.specs.List.{AllZip, list_any, sum_by};
-ghost use Rattle.shared_lines.specs.Front.{CountsLines, front_lines};
-ghost use Rattle.zmo_module.specs.Modules.{module_of};
-ghost use Rattle.zmo_module.specs.Rules.{IsModule};
-ghost use Rattle.shared_lines.specs.Behind.{IsBehind};
+ghost use Rattle.report_texts.specs.Front.{CountsLines, front_lines};
+ghost use Rattle.zmo_object.specs.Modules.{module_of};
+ghost use Rattle.zmo_object.specs.Rules.{IsModule};
+ghost use Rattle.report_texts.specs.Behind.{IsBehind};
 ghost use Rattle.report_texts.specs.Reports.{is_in_line, is_error, bears_name};
 ghost use Rattle.link_errors.specs.Names.{link_name};
-ghost use Rattle.program_warnings.specs.Counts.{HasWarnings, warning_count};
+ghost use Rattle.link_errors.specs.Counts.{HasWarnings, warning_count};
 ghost use Rattle.z80dev_explain.specs.Explained.{AreFrontErrors, AreLongs, HasErrorOnce, IsExplained, IsExplainedBehind};
 ghost use Rattle.z80dev_explain.specs.Reports.{is_report_of};
 
@@ -17,12 +17,10 @@ use crate::gathering::Gathered;
 use crate::shared::{put_told, put_unshared};
 use asm_module::{AsmFault, Lines, Module, assemble_with};
 use common::{KeyMixer, NameKey};
-use link_errors::{name_of, put_link_errors, put_plain};
-use program_warnings::{long_jumps_of, put_mistakes, warnings_of};
-use report_texts::{Form, MOST_REPORTS, Report, Severity, Where, without_repeats};
-use shared_lines::{
-    Front, Refusal, SourceFile, Told, fault_of_front, front_lines, front_text, sources_behind,
-    texts_behind, why_name,
+use link_errors::{long_jumps_of, name_of, put_link_errors, put_mistakes, put_plain, warnings_of};
+use report_texts::{
+    Form, Front, MOST_REPORTS, Refusal, Report, Severity, SourceFile, Told, Where, fault_of_front,
+    front_lines, front_text, sources_behind, texts_behind, why_name, without_repeats,
 };
 use std::alloc::{AllocError, Global};
 use written_lines::{Sources, lines_of};
@@ -282,7 +280,8 @@ fn all_of_front(
 ) -> Result<Vec<Report>, AllocError>
     ensures { IfOk result (λ reports. 0 < length reports.items) }
 {
-    let mut gathered = Gathered::new(alloc, key_of(sources), 0, most_of(form));
+    let before = front_lines(sources.front);
+    let mut gathered = Gathered::new(alloc, key_of(sources), before, most_of(form));
     put_errors(alloc, sources, 0, false, &mut gathered)?;
     let mut reports = gathered.into_reports();
     put_unshared(alloc, sources, &mut reports)?;

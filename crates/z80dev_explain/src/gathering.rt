@@ -57,6 +57,11 @@ impl Gathered {
         true
     }
 
+    /// Whether a line is one of the front, so that an earlier source may have the same error there.
+    pub(crate) fn is_front_line(&self, line: u32) -> bool {
+        line as usize <= self.before
+    }
+
     /// Whether an error is not one that an earlier source has too.
     pub(crate) fn is_new(&mut self, alloc: Global, report: &Report) -> Result<bool, AllocError> {
         self.seen.is_new(alloc, self.before, report)

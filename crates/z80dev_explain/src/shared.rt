@@ -4,8 +4,7 @@ ghost use Rattle.std.specs.Prelude.{◌<◌, OnOk, length};
 
 use asm_module::{SourceLine, read_source};
 use error_messages::Note;
-use report_texts::{Report, Severity};
-use shared_lines::{Told, is_shared};
+use report_texts::{Report, Severity, Told, is_shared};
 use std::alloc::{AllocError, Global};
 use written_lines::Sources;
 
@@ -21,7 +20,6 @@ fn unshared(alloc: Global, sources: &Sources<'_, '_>, line: u32) -> Result<Repor
         at: Some(sources.named(alloc, 0, line, b"")?),
         text: String::from_str(alloc, "a shared file may not have this line")?,
         name: String::from_str(alloc, "NotShared")?,
-        about: Vec::new(alloc),
         notes,
     })
 }
@@ -58,7 +56,6 @@ pub(crate) fn put_told(
         at: None,
         text: String::from_str(alloc, "the shared files have an error")?,
         name: format!(in alloc; "{told}")?,
-        about: Vec::new(alloc),
         notes: Vec::new(alloc),
     })?;
     Ok(())

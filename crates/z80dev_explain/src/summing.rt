@@ -5,8 +5,7 @@ ghost use Rattle.std.specs.Option.{option_map};
 ghost use Rattle.z80dev_explain.specs.Explanation.{count_text, IsExplanation, IsFine, summary_of};
 
 use crate::explaining::{Asked, Explained, explain};
-use report_texts::{Files, Report, print_reports};
-use shared_lines::{Front, SourceFile};
+use report_texts::{Files, Front, Report, SourceFile, print_reports};
 use std::alloc::{AllocError, Global};
 
 /// What is said of sources.

@@ -1,3 +1,4 @@
+mod Running
 pub mod One_word
 pub mod Refused
 pub mod Reported

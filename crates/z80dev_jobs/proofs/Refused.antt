@@ -11,11 +11,11 @@ use Rattle.z80dev_commands.specs.declared.job.DiskJob.TheVariants as on
 use Rattle.z80dev_commands.specs.declared.job.Job.{Job}
 use Rattle.z80dev_commands.specs.declared.job.Job.TheVariants.{Pipe, Asm, Link, Build, Explain, Check, Dis, Disk, Run, Debug, Play}
 use Rattle.z80dev_jobs.specs.Command.{AsksToShow, CommandEnds, IsUsageFault}
-use Rattle.job_steps.specs.Reporting.{Untouched}
+use Rattle.host.specs.Reporting.{Untouched}
 use Rattle.z80dev_jobs.specs.Private.Steps.{HasJobUser, RefusesError}
-use Rattle.disk_jobs.specs.Disks.{HasUser}
+use Rattle.z80dev.specs.Disks.{HasUser}
 use Rattle.z80dev_jobs.specs.Words.{AreTexts}
-use Rattle.job_steps.specs.World.{World}
+use Rattle.host.specs.World.{World}
 
 abbrev is_out : ErrorKind → Bool
 is_out kind.OutOfMemory = true

@@ -1,14 +1,14 @@
 -- From how a command ended to what is reported of it.
 use Rattle.std.proofs.Common.{◌≡◌, ℕ, List, String, Option, Result, Ok, Err, refl}
 use Rattle.std.specs.Global.{Global}
-use Rattle.streams.specs.Stream.{Stream}
-use Rattle.z80dev_finish.specs.End.{end_status}
-use Rattle.z80dev_finish.specs.Files.{Folder}
-use Rattle.z80dev_finish.specs.declared.end.End.{End}
-use Rattle.job_steps.specs.Reporting.{ReportsLine, TellsWith}
-use Rattle.job_steps.specs.Ending.{Effect, effect_of, EndsWith, end_in, line_put}
-use Rattle.job_steps.specs.Reading.{Reader}
-use Rattle.job_steps.specs.World.{world_of}
+use Rattle.host.specs.Streams.Stream.{Stream}
+use Rattle.host.specs.End.{end_status}
+use Rattle.host.specs.Files.{Folder}
+use Rattle.host.specs.declared.end.End.{End}
+use Rattle.host.specs.Reporting.{ReportsLine, TellsWith}
+use Rattle.host.specs.Ending.{Effect, effect_of, EndsWith, end_in, line_put}
+use Rattle.host.specs.Reading.{Reader}
+use Rattle.host.specs.World.{world_of}
 
 of_ends : (Is : Option (List ℕ) → End → Type 0) (result : Result (Option (String Global)) End) → EndsWith Is result → Is (line_put result) (end_in result)
 of_ends Is (Ok line) is = is

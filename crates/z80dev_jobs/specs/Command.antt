@@ -3,27 +3,27 @@ use Rattle.std.specs.Prelude.{◌≡◌, ◌≢◌, ◌⊎◌, ℕ, Bool, true, 
 use Rattle.clap.specs.Words.{IsAmong, fault_of, takes}
 use Rattle.clap.specs.declared.error.kind.ErrorKind.{ErrorKind}
 use Rattle.clap.specs.declared.error.kind.ErrorKind.TheVariants as kind
-use Rattle.streams.specs.Stream.{Stream}
-use Rattle.streams.specs.Writing.{PrintsAll, PutsFront, error_line}
+use Rattle.host.specs.Streams.Stream.{Stream}
+use Rattle.host.specs.Streams.Writing.{PrintsAll, PutsFront, error_line}
 use Rattle.z80dev.specs.Pipe.{PrintingEnds, said_at, status_at}
 use Rattle.z80dev.specs.Reading.{IsCutShort, OfText}
 use Rattle.z80dev.specs.declared.fault.Fault.{Fault}
 use Rattle.z80dev_commands.specs.Commands.{IsJob, IsMiscounted, z80dev}
 use Rattle.z80dev_commands.specs.declared.job.Job.{Job}
 use Rattle.z80dev_commands.specs.declared.job.Job.TheVariants.{Pipe, Asm, Link, Build, Explain, Check, Dis, Disk, Run, Debug, Play}
-use Rattle.z80dev_finish.specs.End.{IsPut, Tells, TellsOf}
-use Rattle.z80dev_finish.specs.declared.end.End.TheVariants as end
-use Rattle.disk_jobs.specs.Disks.{DiskJobEnds}
-use Rattle.build_jobs.specs.Making.{AsmEnds, BuildEnds, CheckEnds, DisEnds, LinkEnds}
-use Rattle.run_jobs.specs.Debugging.{DebugEnds}
+use Rattle.host.specs.End.{IsPut, Tells, TellsOf}
+use Rattle.host.specs.declared.end.End.TheVariants as end
+use Rattle.z80dev.specs.Disks.{DiskJobEnds}
+use Rattle.z80dev.specs.Making.{AsmEnds, BuildEnds, CheckEnds, DisEnds, LinkEnds}
+use Rattle.z80dev_jobs.specs.Runs.Debugging.{DebugEnds}
 use Rattle.z80dev_jobs.specs.Explaining.{ExplainEnds}
-use Rattle.run_jobs.specs.Playing.{PlayEndsWith, bad_in_play}
-use Rattle.run_jobs.specs.Running.{RunEnds}
+use Rattle.z80dev_jobs.specs.Runs.Playing.{PlayEndsWith, bad_in_play}
+use Rattle.z80dev_jobs.specs.Runs.Running.{RunEnds}
 use Rattle.z80dev_jobs.specs.Words.{AreTexts, IsNotText}
-use Rattle.build_jobs.specs.Values.{bad_define, bad_in_build, bad_symbols}
+use Rattle.z80dev.specs.Values.{bad_define, bad_in_build, bad_symbols}
 use Rattle.z80dev_jobs.specs.Values.{bad_in_explain}
-use Rattle.job_steps.specs.World.{World}
-use Rattle.job_steps.specs.Reporting.{Reports, ReportsLine, ReportsLines, Untouched, LacksMemory, Judging}
+use Rattle.host.specs.World.{World}
+use Rattle.host.specs.Reporting.{Reports, ReportsLine, ReportsLines, Untouched, LacksMemory, Judging}
 
 -- Without words: the file of the source text on standard input is printed in hexadecimal.
 abbrev pub PipeEnds : World → World → ℕ → Type 0

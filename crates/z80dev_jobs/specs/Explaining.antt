@@ -2,19 +2,19 @@
 use Rattle.std.specs.Prelude.{◌≡◌, ◌⊎◌, ℕ, Bool, true, false, List, Option, None, Some, codes, if◌then◌else◌, map, string_bytes}
 use Rattle.std.specs.Borrow.{Bor}
 use Rattle.std.specs.Str.{bytes_eq}
-use Rattle.streams.specs.Stream.{Stream}
-use Rattle.streams.specs.Writing.{PrintsAll, PutsFront}
+use Rattle.host.specs.Streams.Stream.{Stream}
+use Rattle.host.specs.Streams.Writing.{PrintsAll, PutsFront}
 use Rattle.z80dev_commands.specs.declared.job.Explain.{Explain}
 use Rattle.z80dev_explain.specs.Explanation.{IsExplanation}
 use Rattle.z80dev_explain.specs.declared.explaining.Asked.{Asked}
 use Rattle.report_texts.specs.declared.printing.Form.{Form}
 use Rattle.report_texts.specs.declared.printing.Form.TheVariants as form
-use Rattle.z80dev_finish.specs.declared.end.End.{End}
-use Rattle.z80dev_finish.specs.declared.end.End.TheVariants as end
-use Rattle.shared_lines.specs.declared.front.SourceFile.{SourceFile}
-use Rattle.shared_lines.specs.declared.front.Front.{Front}
-use Rattle.build_jobs.specs.Making.{AreFiles, IsFront, shared_paths}
-use Rattle.job_steps.specs.Ending.{Effect, WithAll}
+use Rattle.host.specs.declared.end.End.{End}
+use Rattle.host.specs.declared.end.End.TheVariants as end
+use Rattle.report_texts.specs.declared.front.SourceFile.{SourceFile}
+use Rattle.report_texts.specs.declared.front.Front.{Front}
+use Rattle.z80dev.specs.Making.{AreFiles, IsFront, shared_paths}
+use Rattle.host.specs.Ending.{Effect, WithAll}
 
 -- Exactly this text is printed. Then the command is refused with the summary; without one, all is done.
 abbrev pub PrintsWith : List ℕ → Option (List ℕ) → Stream → Stream → End → Type 0

@@ -3,8 +3,8 @@ use Rattle.std.specs.Prelude.{ℕ, ◌||◌, Bool, List, ◌++◌, Option, None,
 use Rattle.std.specs.Borrow.{Bor}
 use Rattle.std.specs.Str.{bytes_eq}
 use Rattle.z80dev_commands.specs.declared.job.Explain.{Explain}
-use Rattle.build_jobs.specs.Values.{bad_define}
-use Rattle.job_steps.specs.Reporting.{either}
+use Rattle.z80dev.specs.Values.{bad_define}
+use Rattle.host.specs.Reporting.{either}
 
 -- when a command prints in colour
 abbrev pub is_color : List ℕ → Bool

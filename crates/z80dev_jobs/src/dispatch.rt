@@ -4,27 +4,27 @@ ghost use Rattle.std.specs.Prelude.{◌≡◌, ◌≢◌, ◌≤◌, [], false, 
 ghost use Rattle.debugger.specs.declared.conversation.TheConstants.{MOST_READS};
 ghost use Rattle.clap.specs.Words.{kind_of};
 ghost use Rattle.z80dev_jobs.specs.Command.{CommandEnds, JobEnds};
-ghost use Rattle.job_steps.specs.Reporting.{Judging, Reports};
+ghost use Rattle.host.specs.Reporting.{Judging, Reports};
 ghost use Rattle.z80dev_jobs.specs.Explaining.{ExplainEnds};
-ghost use Rattle.job_steps.specs.Ending.{ended};
+ghost use Rattle.host.specs.Ending.{ended};
 ghost use Rattle.z80dev_jobs.specs.Private.Steps.{HasJobUser, RefusesError, RefusesFault};
-ghost use Rattle.job_steps.specs.Reading.{Reader, reader_of};
+ghost use Rattle.host.specs.Reading.{Reader, reader_of};
 ghost use Rattle.z80dev_jobs.specs.Values.{bad_in_explain};
-ghost use Rattle.job_steps.specs.World.{world_of};
+ghost use Rattle.host.specs.World.{world_of};
 
 use crate::explaining::explain_files;
 use crate::tips::tip;
 use crate::values::bad_in_explain;
 use crate::words::{WordsFault, texts_of};
-use build_jobs::{asm_job, build_job, check_files, dis_file, link_job};
+use crate::{debug_job, play_job, run_job};
 use clap::Error;
 use clap::error::ErrorKind;
-use disk_jobs::do_on_disk;
-use job_steps::{Ended, Host, refuse_value, report_any, report_line};
-use run_jobs::{debug_job, play_job, run_job};
+use host::{Ended, Host, print, refuse_value, report_any, report_line, tell};
 use std::alloc::{AllocError, Global};
-use streams::{print, tell};
-use z80dev::{DONE, End, Files, Input, Job, Sink, USAGE, commands, pipe, report};
+use z80dev::{
+    DONE, End, Files, Input, Job, Sink, USAGE, asm_job, build_job, check_files, commands, dis_file,
+    do_on_disk, link_job, pipe, report,
+};
 use z80dev_commands::Explain;
 
 /// Reports why the words are not known, and gives the exit status.

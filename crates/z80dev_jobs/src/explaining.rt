@@ -2,13 +2,11 @@
 
 ghost use Rattle.std.specs.Prelude.{◌≡◌, length, map, option_map, string_bytes};
 ghost use Rattle.z80dev_jobs.specs.Explaining.{ExplainEnds, Explains, PrintsWith, asked_of, form_for};
-ghost use Rattle.job_steps.specs.Ending.{effect_of, ended};
+ghost use Rattle.host.specs.Ending.{effect_of, ended};
 
-use build_jobs::sources_of;
-use job_steps::read_all;
+use host::{print, read_all};
 use std::alloc::Global;
-use streams::print;
-use z80dev::{End, Files, Front, Sink};
+use z80dev::{End, Files, Front, Sink, shared_of, sources_of};
 use z80dev_commands::Explain;
 use z80dev_explain::{Asked, Explanation, Form, explain_sources};
 
@@ -67,7 +65,7 @@ fn explain_texts<W: Sink>(
     requires texts { length job.now.sources.items ≡ length texts.now }
     ensures { Explains job.now is_terminal (map (λ text. text.items) fronts.now) (map (λ text. text.items) texts.now) (W.stream output.old) (W.stream output.new) (ended result) }
 {
-    let shared_files = sources_of(alloc, &job.shared.files, fronts)?;
+    let shared_files = shared_of(alloc, &job.shared.files, fronts)?;
     let sources = sources_of(alloc, &job.sources, texts)?;
     let front = Front {
         defines: &job.shared.defines,

@@ -3,8 +3,8 @@
 ghost use Rattle.std.specs.Prelude.{◌≡◌, IfOk, option_map, string_bytes};
 ghost use Rattle.z80dev_jobs.specs.Values.{bad_color, bad_in_explain, is_color};
 
-use build_jobs::bad_define;
 use std::alloc::{AllocError, Global};
+use z80dev::bad_define;
 use z80dev_commands::Explain;
 
 /// Whether a word says when a command prints in colour.

@@ -11,7 +11,7 @@ const NAME: &str = "z80dev";
 
 /// Why the words are not known.
 #[derive(Clone, Copy, Debug, PartialEq, Eq)]
-pub(crate) enum WordsFault {
+pub enum WordsFault {
     /// The word of this number is not UTF-8. The first after the program's name has the number 1.
     NotText(usize),
     /// Memory ran out.
@@ -42,7 +42,7 @@ fn text_of(alloc: Global, number: usize, word: &[u8]) -> Result<String, WordsFau
 /// # Errors
 ///
 /// The first word that is not UTF-8; or memory ran out.
-pub(crate) fn texts_of(alloc: Global, words: &[Vec<u8>]) -> Result<Vec<String>, WordsFault>
+pub fn texts_of(alloc: Global, words: &[Vec<u8>]) -> Result<Vec<String>, WordsFault>
     ensures { ReadsWords (map (λ word. word.items) words.now) result }
 {
     let mut texts = Vec::with_capacity(alloc, words.len())?;

@@ -3,7 +3,7 @@ use Rattle.std.proofs.Common.{◌≡◌, ◌∙◌, ◌++◌, inl, inr, ℕ, Boo
 use Rattle.std.proofs.lemmas.List.{map-append}
 use Rattle.std.proofs.Math.Seq.{take-length}
 use Rattle.zlink.specs.Linked.{Symbol}
-use Rattle.zmo_module.specs.Modules.{Module}
+use Rattle.zmo_object.specs.Modules.{Module}
 use Rattle.asm_module.specs.Assembled.{Assembled}
 use Rattle.zlink.specs.Types.{AsmFault}
 use Rattle.zlink.specs.declared.building.Built.{Built}
@@ -13,11 +13,11 @@ use Rattle.zlink.specs.declared.fault.LinkFault.{LinkFault}
 use Rattle.zlink.specs.declared.fault.LinkFault.TheVariants as link
 use Rattle.zlink.specs.declared.linking.Linked.{Linked}
 use Rattle.zlink.specs.declared.source.Source.{Source}
-use Rattle.z80dev_finish.specs.Answers.{Answer, MemoryAside, nothing}
-use Rattle.z80dev_finish.specs.declared.answer.Kind.{Kind}
-use Rattle.z80dev_finish.specs.declared.answer.Kind.TheVariants as kind
-use Rattle.shared_lines.specs.declared.front.SourceFile.{SourceFile}
-use Rattle.shared_lines.specs.declared.front.Front.{Front}
+use Rattle.host.specs.Answers.{Answer, MemoryAside, nothing}
+use Rattle.host.specs.declared.answer.Kind.{Kind}
+use Rattle.host.specs.declared.answer.Kind.TheVariants as kind
+use Rattle.report_texts.specs.declared.front.SourceFile.{SourceFile}
+use Rattle.report_texts.specs.declared.front.Front.{Front}
 use Rattle.z80dev_make.specs.declared.jumps.Jumps.{Jumps}
 use Rattle.program_map.specs.declared.form.SymbolForm.{SymbolForm}
 use Rattle.z80dev_make.specs.Answers.{HasKinds, kinds_of, no_program}

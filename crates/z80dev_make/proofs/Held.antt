@@ -2,17 +2,17 @@
 use Rattle.std.proofs.Common.{◌≡◌, ◌⊎◌, inl, inr, ◌+◌, ℕ, List, [], ◌∷◌, Vec, length, map, refl, sym, ap, ◌∙◌}
 use Rattle.std.specs.Global.{Global}
 use Rattle.std.specs.List.{AllZip, zip}
-use Rattle.zmo_module.specs.Modules.{module_of, statement_of}
-use Rattle.zmo_module.specs.declared.module.Module as held
+use Rattle.zmo_object.specs.Modules.{module_of, statement_of}
+use Rattle.zmo_object.specs.declared.module.Module as held
 use Rattle.zlink.specs.Program.Parts.{Publics, parts_from}
 use Rattle.zlink.specs.Program.Whole.{IsLinks, public_statement}
 use Rattle.zlink.specs.declared.program.joining.Links.{Links}
 use Rattle.asm_module.specs.Assembled.{Assembled}
 use Rattle.asm_module.specs.declared.assembling.Lines as listing
 use mathlib.Core.List.{map-map}
-use Rattle.shared_lines.specs.declared.front.SourceFile.{SourceFile}
-use Rattle.shared_lines.specs.declared.front.Front.{Front}
-use Rattle.shared_lines.specs.Front.{earlier, front_lines}
+use Rattle.report_texts.specs.declared.front.SourceFile.{SourceFile}
+use Rattle.report_texts.specs.declared.front.Front.{Front}
+use Rattle.report_texts.specs.Front.{earlier, front_lines}
 use Rattle.z80dev_make.specs.Warned.{built_source, source_shown}
 use Rattle.z80dev_make.specs.Private.Shown.{member_with, shown_in}
 

@@ -3,16 +3,16 @@ use Rattle.std.proofs.Common.{◌≡◌, ◌∙◌, ℕ, Bool, List, [], ◌∷�
 use Rattle.std.specs.List.{AllZip}
 use mathlib.Core.List.{map-map}
 use Rattle.asm_module.specs.Assembled.{Assembled, Assembles}
-use Rattle.zmo_module.specs.Modules.{module_of}
-use Rattle.zmo_module.specs.Rules.{IsModule}
+use Rattle.zmo_object.specs.Modules.{module_of}
+use Rattle.zmo_object.specs.Rules.{IsModule}
 use Rattle.zlink.specs.Built.{IsBuilt}
 use Rattle.zlink.specs.Sources.{AreAssembled, Assembly}
 use Rattle.zlink.specs.declared.building.Built.{Built}
 use Rattle.zlink.specs.declared.source.Source.{Source}
-use Rattle.shared_lines.specs.Behind.{IsBehind}
+use Rattle.report_texts.specs.Behind.{IsBehind}
 use Rattle.z80dev_make.specs.Warned.{IsAssembledBehind, IsWarnedProgram, build_warnings}
-use Rattle.shared_lines.specs.declared.front.SourceFile.{SourceFile}
-use Rattle.shared_lines.specs.declared.front.Front.{Front}
+use Rattle.report_texts.specs.declared.front.SourceFile.{SourceFile}
+use Rattle.report_texts.specs.declared.front.Front.{Front}
 
 -- the modules of a program keep the rules of an object file
 pub are_modules : (grow : Bool) (behind : List Source) (b : Built) → IsBuilt grow behind (Ok b) → All IsModule (map module_of b.modules.items)

@@ -1,8 +1,8 @@
 -- The object files of modules are read as these modules.
 use Rattle.std.proofs.Common.{◌≡◌, suc, List, [], ◌∷◌, Result, Ok, All, map, refl, sym, ap, ◌∙◌, arith}
 use Rattle.std.specs.List.{AllZip}
-use Rattle.zmo_module.specs.Modules.{Module}
-use Rattle.zmo_module.specs.Rules.{IsModule}
+use Rattle.zmo_object.specs.Modules.{Module}
+use Rattle.zmo_object.specs.Rules.{IsModule}
 use Rattle.zmo_object.specs.declared.fault.ObjectFault.{ObjectFault}
 use Rattle.zmo_object.specs.Reading.{read_of}
 use Rattle.zmo_object.specs.Texts.{module_text}

@@ -2,12 +2,12 @@
 use Rattle.std.specs.Prelude.{◌≡◌, ℕ, List, [], ◌∷◌, ◌++◌, Some, map, take}
 use Rattle.zlink.specs.declared.fault.LinkFault.{LinkFault}
 use Rattle.zlink.specs.declared.fault.LinkFault.TheVariants as link
-use Rattle.shared_lines.specs.declared.faults.refusal.Told.{Told}
-use Rattle.shared_lines.specs.Faults.Refusals.{misfit_text, of_link, program_refusal_text, told_text}
-use Rattle.z80dev_finish.specs.Answers.{Answer, answer_by, nothing}
-use Rattle.z80dev_finish.specs.declared.answer.Answer as made
-use Rattle.z80dev_finish.specs.declared.answer.Kind.{Kind}
-use Rattle.z80dev_finish.specs.declared.answer.Kind.TheVariants as kind
+use Rattle.report_texts.specs.declared.faults.refusal.Told.{Told}
+use Rattle.report_texts.specs.Faults.Refusals.{misfit_text, of_link, program_refusal_text, told_text}
+use Rattle.host.specs.Answers.{Answer, answer_by, nothing}
+use Rattle.host.specs.declared.answer.Answer as made
+use Rattle.host.specs.declared.answer.Kind.{Kind}
+use Rattle.host.specs.declared.answer.Kind.TheVariants as kind
 
 -- an answer of the code as definitions see it
 abbrev pub answer_of : made.Answer Told → Answer

@@ -2,14 +2,14 @@
 use Rattle.std.specs.Prelude.{◌≡◌, Bool, [], ◌∷◌, ◌++◌, None, Result, Ok, Err}
 use Rattle.asm_module.specs.declared.fault.AsmFault.{AsmFault}
 use Rattle.asm_module.specs.Assembled.{Assembled, Assembles, HasCause}
-use Rattle.zmo_module.specs.Modules.{Module}
+use Rattle.zmo_object.specs.Modules.{Module}
 use Rattle.zmo_object.specs.Texts.{module_text}
-use Rattle.shared_lines.specs.Front.{front_text, source_fault_text}
-use Rattle.shared_lines.specs.Shared.{UnlessFaulty}
-use Rattle.z80dev_finish.specs.declared.answer.Kind.TheVariants as kind
-use Rattle.shared_lines.specs.declared.front.SourceFile.{SourceFile}
-use Rattle.shared_lines.specs.declared.front.Front.{Front}
-use Rattle.z80dev_finish.specs.Answers.{Answer, nothing}
+use Rattle.report_texts.specs.Front.{front_text, source_fault_text}
+use Rattle.report_texts.specs.Shared.{UnlessFaulty}
+use Rattle.host.specs.declared.answer.Kind.TheVariants as kind
+use Rattle.report_texts.specs.declared.front.SourceFile.{SourceFile}
+use Rattle.report_texts.specs.declared.front.Front.{Front}
+use Rattle.host.specs.Answers.{Answer, nothing}
 
 -- the object file of a module
 abbrev pub object_answer : Module → Answer

@@ -8,17 +8,17 @@ use Rattle.zlink.specs.declared.origins.Origin.{Origin}
 use Rattle.zlink.specs.declared.source.Source.{Source}
 use Rattle.zlink.specs.Built.{IsBuilt, IsExactBuild}
 use Rattle.zlink.specs.Linked.{symbol_of}
-use Rattle.zlisting.specs.Listing.{listing}
-use Rattle.zlisting.specs.Symbols.{symbols}
-use Rattle.shared_lines.specs.Front.{path_at, source_fault_text}
-use Rattle.shared_lines.specs.Shared.{UnlessFaulty}
-use Rattle.shared_lines.specs.declared.front.Front.{Front}
-use Rattle.z80dev_finish.specs.declared.answer.Kind.{Kind}
-use Rattle.shared_lines.specs.declared.front.SourceFile.{SourceFile}
-use Rattle.z80dev_finish.specs.Answers.{Answer, nothing}
+use Rattle.program_map.specs.Listings.Listing.{listing}
+use Rattle.program_map.specs.Listings.Symbols.{symbols}
+use Rattle.report_texts.specs.Front.{path_at, source_fault_text}
+use Rattle.report_texts.specs.Shared.{UnlessFaulty}
+use Rattle.report_texts.specs.declared.front.Front.{Front}
+use Rattle.host.specs.declared.answer.Kind.{Kind}
+use Rattle.report_texts.specs.declared.front.SourceFile.{SourceFile}
+use Rattle.host.specs.Answers.{Answer, nothing}
 use Rattle.z80dev_make.specs.declared.jumps.Jumps.{Jumps}
 use Rattle.z80dev_make.specs.Jumps.{jumps_of}
-use Rattle.shared_lines.specs.Behind.{HasOwnLines, IsBehind, IsSource}
+use Rattle.report_texts.specs.Behind.{HasOwnLines, IsBehind, IsSource}
 use Rattle.z80dev_make.specs.Answers.{no_program, program_files}
 use Rattle.z80dev_make.specs.Products.{IsMapText, listing_files, map_files, symbol_files}
 use Rattle.z80dev_make.specs.declared.products.Products.{Products}

@@ -2,15 +2,15 @@
 use Rattle.std.specs.Prelude.{◌≡◌, ◌⊎◌, ℕ, Bool, List, [], ◌++◌, false, Some, None, Result, Ok, Err, length, map, slice_get, take}
 use Rattle.std.specs.Bool.{OnTrue}
 use Rattle.std.specs.List.{AllZip}
-use Rattle.zmo_module.specs.Modules.{Module}
+use Rattle.zmo_object.specs.Modules.{Module}
 use Rattle.zmo_object.specs.declared.fault.ObjectFault.{ObjectFault}
 use Rattle.zmo_object.specs.Reading.{read_of}
 use Rattle.zlink.specs.declared.fault.LinkFault.{LinkFault}
 use Rattle.zlink.specs.declared.linking.Linked.{Linked}
 use Rattle.zlink.specs.Linked.{IsExactLink, IsLinked, symbol_of}
-use Rattle.shared_lines.specs.Faults.Refusals.{object_text}
-use Rattle.z80dev_finish.specs.Answers.{Answer, nothing}
-use Rattle.z80dev_finish.specs.declared.answer.Kind.{Kind}
+use Rattle.report_texts.specs.Faults.Refusals.{object_text}
+use Rattle.host.specs.Answers.{Answer, nothing}
+use Rattle.host.specs.declared.answer.Kind.{Kind}
 use Rattle.program_map.specs.Map.{program_map}
 use Rattle.program_map.specs.Sums.{IsWholeMap}
 use Rattle.program_map.specs.Text.{map_text}

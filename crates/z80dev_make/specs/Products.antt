@@ -9,8 +9,8 @@ use Rattle.program_map.specs.Sums.{IsWholeMap}
 use Rattle.program_map.specs.SymbolFile.{symbol_file}
 use Rattle.program_map.specs.Text.{map_text}
 use Rattle.program_map.specs.declared.form.SymbolForm.{SymbolForm}
-use Rattle.z80dev_finish.specs.declared.answer.Kind.{Kind}
-use Rattle.z80dev_finish.specs.declared.answer.Kind.TheVariants as kind
+use Rattle.host.specs.declared.answer.Kind.{Kind}
+use Rattle.host.specs.declared.answer.Kind.TheVariants as kind
 use Rattle.z80dev_make.specs.declared.products.Products.{Products}
 
 -- The kinds of the files of labels: those beside the listing, unless SID's have the same path, and those of ucsim.

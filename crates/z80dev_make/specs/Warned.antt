@@ -4,24 +4,24 @@ use Rattle.std.specs.List.{AllZip, flat_map, zip}
 use Rattle.std.specs.Option.{option_map_or}
 use Rattle.asm_module.specs.Assembled.{Assembled, Assembles}
 use Rattle.asm_module.specs.declared.assembling.Lines.{Lines}
-use Rattle.jump_warnings.specs.declared.offsets.Offset.{Offset}
-use Rattle.jump_warnings.specs.declared.part.Site.{Site}
-use Rattle.jump_warnings.specs.declared.warnings.Warning.{Warning}
-use Rattle.jump_warnings.specs.declared.warnings.Warning.TheVariants as warning
-use Rattle.jump_warnings.specs.Parts.{Member}
-use Rattle.jump_warnings.specs.Warnings.{all_warnings}
+use Rattle.source_warnings.specs.declared.jumps.offsets.Offset.{Offset}
+use Rattle.source_warnings.specs.declared.jumps.part.Site.{Site}
+use Rattle.source_warnings.specs.declared.jumps.warnings.Warning.{Warning}
+use Rattle.source_warnings.specs.declared.jumps.warnings.Warning.TheVariants as warning
+use Rattle.source_warnings.specs.Jumps.Parts.{Member}
+use Rattle.source_warnings.specs.Jumps.Warnings.{all_warnings}
 use Rattle.z80_instr.specs.declared.ShortCond.{ShortCond}
-use Rattle.zmo_module.specs.Modules as object
-use Rattle.zmo_module.specs.Modules.{Module, ModuleStatement, module_of}
-use Rattle.zmo_module.specs.declared.module.Module as held
+use Rattle.zmo_object.specs.Modules as object
+use Rattle.zmo_object.specs.Modules.{Module, ModuleStatement, module_of}
+use Rattle.zmo_object.specs.declared.module.Module as held
 use Rattle.zlink.specs.declared.building.Built.{Built}
 use Rattle.zlink.specs.declared.program.fault.JoinFault.{JoinFault}
 use Rattle.zlink.specs.Program.Faults.{first_fault}
 use Rattle.zlink.specs.Program.Parts.{all_publics, parts}
 use Rattle.zlink.specs.Program.Whole.{public_statement}
-use Rattle.shared_lines.specs.Front.{earlier, front_lines, front_text}
-use Rattle.shared_lines.specs.declared.front.SourceFile.{SourceFile}
-use Rattle.shared_lines.specs.declared.front.Front.{Front}
+use Rattle.report_texts.specs.Front.{earlier, front_lines, front_text}
+use Rattle.report_texts.specs.declared.front.SourceFile.{SourceFile}
+use Rattle.report_texts.specs.declared.front.Front.{Front}
 use Rattle.z80dev_make.specs.declared.jumps.Jumps.{Jumps}
 use Rattle.z80dev_make.specs.declared.warning.JumpWarning.{JumpWarning}
 

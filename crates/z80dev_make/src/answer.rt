@@ -1,12 +1,12 @@
 //! What a command answers.
 
 ghost use Rattle.std.specs.Prelude.{◌≡◌, IfOk, codes, map};
-ghost use Rattle.z80dev_finish.specs.Answers.{file_of, nothing};
+ghost use Rattle.host.specs.Answers.{file_of, nothing};
 ghost use Rattle.z80dev_make.specs.Answers.{answer_of, no_program, program_files, refusal_answer, text_files};
 
-use shared_lines::{Refusal, Told};
+use host::{Answer, Kind, NewFile};
+use report_texts::{Refusal, Told};
 use std::alloc::{AllocError, Global};
-use z80dev_finish::{Answer, Kind, NewFile};
 use zlink::LinkFault;
 
 /// Answers a refusal.

@@ -1,23 +1,23 @@
 //! The command `asm`: assembles a source to an object file.
 
 ghost use Rattle.std.specs.Prelude.{◌≡◌, ◌++◌, [], IfOk};
-ghost use Rattle.zmo_module.specs.Modules.{module_of};
-ghost use Rattle.zmo_module.specs.Rules.{IsModule};
+ghost use Rattle.zmo_object.specs.Modules.{module_of};
+ghost use Rattle.zmo_object.specs.Rules.{IsModule};
 ghost use Rattle.asm_module.specs.Assembled.{Assembled};
-ghost use Rattle.z80dev_finish.specs.Answers.{MemoryAside, nothing};
+ghost use Rattle.host.specs.Answers.{MemoryAside, nothing};
 ghost use Rattle.z80dev_make.specs.Answers.{answer_of};
-ghost use Rattle.shared_lines.specs.Faults.Refusals.{told_text};
+ghost use Rattle.report_texts.specs.Faults.Refusals.{told_text};
 ghost use Rattle.z80dev_make.specs.Asm.{IsAsm, IsAsmBehind, object_answer};
-ghost use Rattle.shared_lines.specs.Front.{front_text};
+ghost use Rattle.report_texts.specs.Front.{front_text};
 ghost use Rattle.z80dev_make.specs.Warned.{AreModuleWarnings, wanted_warnings};
-ghost use Rattle.shared_lines.specs.declared.front.SourceFile.{SourceFile};
+ghost use Rattle.report_texts.specs.declared.front.SourceFile.{SourceFile};
 
 use crate::answer::{refused, without_memory};
 use crate::warning::warn_module;
 use asm_module::{Module, Why, assemble_with};
-use shared_lines::{Front, SourceFile, Told, fault_of_front, front_text, text_behind, told_behind};
+use host::{Answer, Kind, NewFile};
+use report_texts::{Front, SourceFile, Told, fault_of_front, front_text, text_behind, told_behind};
 use std::alloc::{AllocError, Global};
-use z80dev_finish::{Answer, Kind, NewFile};
 use zmo_object::write;
 
 /// Answers the object file of a module.

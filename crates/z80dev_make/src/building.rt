@@ -3,35 +3,34 @@
 ghost use Rattle.std.specs.Prelude.{◌≡◌, [], IfOk, List, Ok, Option, slice_get, string_bytes};
 ghost use Rattle.std.specs.List.{AllZip};
 ghost use Rattle.z80dev_make.specs.Answers.{answer_of};
-ghost use Rattle.shared_lines.specs.Faults.Refusals.{told_text};
+ghost use Rattle.report_texts.specs.Faults.Refusals.{told_text};
 ghost use Rattle.z80dev_make.specs.Build.{IsAnswerOf, IsBuild, IsMade, IsRefusal, built_answer, grown_lines, line_from};
-ghost use Rattle.shared_lines.specs.Behind.{IsBehind};
-ghost use Rattle.shared_lines.specs.Front.{front_text};
+ghost use Rattle.report_texts.specs.Behind.{IsBehind};
+ghost use Rattle.report_texts.specs.Front.{front_text};
 ghost use Rattle.z80dev_make.specs.Jumps.{jumps_of};
-ghost use Rattle.shared_lines.specs.Shared.{UnlessFaulty};
+ghost use Rattle.report_texts.specs.Shared.{UnlessFaulty};
 ghost use Rattle.z80dev_make.specs.Warned.{AreWarnings};
 ghost use Rattle.program_map.specs.declared.form.SymbolForm.{SymbolForm};
 ghost use Rattle.z80dev_make.specs.Products.{IsMapText, listing_files, symbol_files};
 ghost use Rattle.zlink.specs.Built.{IsBuilt};
 ghost use Rattle.zlink.specs.Linked.{Symbol};
-ghost use Rattle.zlisting.specs.Listing.{listing};
-ghost use Rattle.zlisting.specs.Symbols.{symbols};
+ghost use Rattle.program_map.specs.Listings.Listing.{listing};
+ghost use Rattle.program_map.specs.Listings.Symbols.{symbols};
 ghost use Rattle.zlink.specs.declared.source.Source.{Source};
 
 use crate::answer::{no_program, program, refused, without_memory};
 use crate::jumps::{Jumps, jumps_of};
 use crate::products::{Products, put_listing, put_map, put_symbols};
 use crate::warning::warn_built;
-use program_map::{map_of_built, map_text};
-use shared_lines::{
+use host::Answer;
+use program_map::{listing, map_of_built, map_text, symbols};
+use report_texts::{
     Front, SourceFile, Told, fault_of_front, front_text, path_at, sources_behind, sources_of,
     texts_behind, told_behind, with_own_lines,
 };
 use std::alloc::{AllocError, Global};
 use std::fmt;
-use z80dev_finish::Answer;
 use zlink::{BuildFault, Built, Origin, Source, build_with};
-use zlisting::{listing, symbols};
 
 /// A jump that was written as `JR` and had to grow, as it is printed.
 #[derive(Clone, Copy)]

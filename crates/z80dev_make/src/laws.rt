@@ -2,26 +2,26 @@
 
 ghost use Rattle.std.specs.Prelude.{◌≡◌, ◌∷◌, ℕ, [], All, Bool, false, List, Option, Result, map};
 ghost use Rattle.std.specs.List.{AllZip};
-ghost use Rattle.zmo_module.specs.Modules.{Module};
-ghost use Rattle.zmo_module.specs.Rules.{IsModule};
+ghost use Rattle.zmo_object.specs.Modules.{Module};
+ghost use Rattle.zmo_object.specs.Rules.{IsModule};
 ghost use Rattle.zmo_object.specs.Texts.{module_text};
 ghost use Rattle.zlink.specs.declared.fault.LinkFault.{LinkFault};
 ghost use Rattle.zlink.specs.declared.linking.Linked.{Linked};
 ghost use Rattle.zlink.specs.Linked.{IsLinked};
 ghost use Rattle.zlink.specs.Outcomes.{AreSame, linked_outcome};
-ghost use Rattle.z80dev_finish.specs.Answers.{Answer, MemoryAside};
-ghost use Rattle.z80dev_finish.specs.declared.answer.Kind.TheVariants as kind;
+ghost use Rattle.host.specs.Answers.{Answer, MemoryAside};
+ghost use Rattle.host.specs.declared.answer.Kind.TheVariants as kind;
 ghost use Rattle.z80dev_make.specs.Answers.{HasKinds};
 ghost use Rattle.z80dev_make.specs.Products.{program_kinds};
 ghost use Rattle.z80dev_make.specs.declared.products.Products.{Products};
 ghost use Rattle.z80dev_make.specs.Asm.{IsAsm};
 ghost use Rattle.z80dev_make.specs.Build.{IsMade};
 ghost use Rattle.z80dev_make.specs.Link.{IsLink, IsObject};
-ghost use Rattle.shared_lines.specs.declared.front.SourceFile.{SourceFile};
-ghost use Rattle.shared_lines.specs.declared.front.Front.{Front};
+ghost use Rattle.report_texts.specs.declared.front.SourceFile.{SourceFile};
+ghost use Rattle.report_texts.specs.declared.front.Front.{Front};
 ghost use Rattle.z80dev_make.specs.declared.jumps.Jumps.{Jumps};
 
-pub use shared_lines::laws::{lines_behind, no_front};
+pub use report_texts::laws::{lines_behind, no_front};
 use zlink::laws::one_link;
 use zmo_object::laws::one_text;
 

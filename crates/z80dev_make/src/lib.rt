@@ -16,13 +16,13 @@ mod warning;
 
 pub use assembling::{Object, asm};
 pub use building::{Made, Wanted, build};
+pub use host::{Answer, Kind, NewFile};
 pub use jumps::Jumps;
 pub use linking::link;
 pub use products::{Products, program_kinds};
 pub use program_map::SymbolForm;
-pub use shared_lines::{
-    Front, Located, Refusal, SourceFile, Told, bad_define, fault_of_front, front_lines, front_text,
-    is_shared, locate, sources_behind, texts_behind, why_name,
+pub use report_texts::{
+    Front, Located, Refusal, SharedFile, SourceFile, Told, bad_define, fault_of_front, front_lines,
+    front_text, is_shared, locate, shared_files, sources_behind, texts_behind, why_name,
 };
 pub use warning::{JumpWarning, jump_warnings};
-pub use z80dev_finish::{Answer, Kind, NewFile};

@@ -4,8 +4,8 @@ ghost use Rattle.std.specs.Prelude.{◌≡◌, IfOk, None, Ok, map};
 ghost use Rattle.program_map.specs.Map.{program_map};
 ghost use Rattle.program_map.specs.Text.{map_text};
 ghost use Rattle.zlink.specs.Linked.{IsLinked};
-ghost use Rattle.zmo_module.specs.Modules.{module_of};
-ghost use Rattle.z80dev_finish.specs.Answers.{MemoryAside, file_of};
+ghost use Rattle.zmo_object.specs.Modules.{module_of};
+ghost use Rattle.host.specs.Answers.{MemoryAside, file_of};
 ghost use Rattle.z80dev_make.specs.Answers.{answer_of};
 ghost use Rattle.z80dev_make.specs.Link.{IsLink, IsWholeLink, link_answer, linked_files};
 ghost use Rattle.z80dev_make.specs.Products.{map_files};
@@ -13,10 +13,10 @@ ghost use Rattle.z80dev_make.specs.Private.Steps.{AreRead};
 
 use crate::answer::{no_program, program, refused, without_memory};
 use crate::products::{Products, put_map, put_symbols};
+use host::{Answer, NewFile};
 use program_map::{map_of_linked, map_text};
-use shared_lines::{Refusal, Told};
+use report_texts::{Refusal, Told};
 use std::alloc::{AllocError, Global};
-use z80dev_finish::{Answer, NewFile};
 use zlink::{LinkFault, Linked, Module, link as link_modules};
 use zmo_object::{ObjectFault, read};
 

@@ -1,13 +1,13 @@
 //! The files that are made of a program.
 
 ghost use Rattle.std.specs.Prelude.{◌≡◌, ◌++◌, OnOk, map};
-ghost use Rattle.z80dev_finish.specs.Answers.{file_of};
+ghost use Rattle.host.specs.Answers.{file_of};
 ghost use Rattle.z80dev_make.specs.Products.{listing_files, map_files, program_kinds, symbol_files};
 ghost use Rattle.zlink.specs.Linked.{symbol_of};
 
+use host::{Kind, NewFile};
 use program_map::{SymbolForm, symbol_file};
 use std::alloc::{AllocError, Global};
-use z80dev_finish::{Kind, NewFile};
 use zlink::Symbol;
 
 /// What is made of a program besides its sizes file, its certificate and its .COM file.

@@ -3,15 +3,15 @@
 ghost use Rattle.std.specs.Prelude.{◌≡◌, ◌++◌, [], decimal, IfOk, OnOk, Some, map, slice_get, slice_index, take};
 ghost use Rattle.std.specs.List.{flat_map};
 ghost use Rattle.std.specs.Option.{option_map_or};
-ghost use Rattle.zmo_module.specs.Modules.{module_of, statement_of};
+ghost use Rattle.zmo_object.specs.Modules.{module_of, statement_of};
 ghost use Rattle.z80dev_make.specs.Private.Shown.{shown_of};
 ghost use Rattle.z80dev_make.specs.Warned.{computed_jump_text, condition_text, external_name, fixed_jump, fixed_text, label_name_at, more_text, shown_name, shown_offset_text, jump_over_text, place_in, site_text, reference_name, signed_text, site_of, jump_warning_lines, warning_message, warning_text};
 
 use asm_module::Module;
-use jump_warnings::{Offset, Site, Warning};
+use source_warnings::{Offset, Site, Warning};
 use std::alloc::{AllocError, Global};
 use z80_instr::ShortCond;
-use zmo_module::Statement;
+use zmo_object::Statement;
 
 /// The most warnings that are shown.
 const MOST_WARNINGS: usize = 10;

@@ -6,18 +6,18 @@ ghost use Rattle.std.specs.List.{AllZip, zip};
 ghost use Rattle.zlink.specs.Program.Faults.{first_fault};
 ghost use Rattle.zlink.specs.Program.Parts.{parts};
 ghost use Rattle.zlink.specs.Program.Whole.{AreLinks};
-ghost use Rattle.jump_warnings.specs.Parts.{member_of};
-ghost use Rattle.jump_warnings.specs.Warnings.{all_warnings};
-ghost use Rattle.zmo_module.specs.Modules.{module_of};
-ghost use Rattle.zmo_module.specs.Rules.{IsModule};
-ghost use Rattle.shared_lines.specs.Front.{earlier, front_lines};
+ghost use Rattle.source_warnings.specs.Jumps.Parts.{member_of};
+ghost use Rattle.source_warnings.specs.Jumps.Warnings.{all_warnings};
+ghost use Rattle.zmo_object.specs.Modules.{module_of};
+ghost use Rattle.zmo_object.specs.Rules.{IsModule};
+ghost use Rattle.report_texts.specs.Front.{earlier, front_lines};
 ghost use Rattle.z80dev_make.specs.Private.Shown.{member_with, shown_in, shown_of};
 ghost use Rattle.z80dev_make.specs.Warned.{AreJumpWarnings, IsGivenAs, build_warnings, found_unless, joined, jump_warning_lines};
 
 use crate::warned::{Shown, line_at, put_message, site_of, warning_lines};
 use asm_module::{Lines, Module};
-use jump_warnings::{Part, Warning, find_warnings};
-use shared_lines::{Front, SourceFile, front_lines, number_lines};
+use report_texts::{Front, SourceFile, front_lines, number_lines};
+use source_warnings::{Part, Warning, find_jump_warnings};
 use std::alloc::{AllocError, Global};
 use zlink::{Built, JoinFault, Links, join};
 
@@ -51,7 +51,7 @@ fn found_alone(alloc: Global, module: &Module) -> Result<Vec<Warning>, AllocErro
     ensures { IfOk result (λ found. found.items ≡ all_warnings (record { holds = module_of «module».now; externals = [] } ∷ [])) }
 {
     let externals: &[u32] = &[];
-    find_warnings(alloc, &[Part { module, externals }])
+    find_jump_warnings(alloc, &[Part { module, externals }])
 }
 
 /// Answers the warnings about the jumps of the module of a source after a front, given the lines of its statements, as lines for standard
@@ -136,7 +136,7 @@ fn found_joined(alloc: Global, modules: &[Module]) -> Result<Vec<Warning>, Alloc
         Err(_) => return Ok(Vec::new(alloc)),
     };
     let parts = joined(alloc, modules, &links)?;
-    find_warnings(alloc, &parts)
+    find_jump_warnings(alloc, &parts)
 }
 
 /// Answers the lines for the program of modules, given the lines of their statements in their own sources.
@@ -229,7 +229,7 @@ fn told_joined(
 }
 
 /// Answers all warnings about the jumps of a program that was built of these sources after a front, in the order of
-/// [`find_warnings`](jump_warnings::find_warnings). Lines have the numbers that they have in their own sources. There is no warning if the
+/// [`find_jump_warnings`](source_warnings::find_jump_warnings). Lines have the numbers that they have in their own sources. There is no warning if the
 /// modules have an error together, so that there is no program.
 ///
 /// # Errors

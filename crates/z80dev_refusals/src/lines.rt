@@ -1,6 +1,6 @@
 //! Makes calls that take a line.
 
-use asm_scan::tokens;
+use asm_line::tokens;
 use asm_spell::{Body, Line, statement};
 use std::alloc::Global;
 use std::io::Write;

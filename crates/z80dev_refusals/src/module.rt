@@ -1,7 +1,7 @@
 //! Makes calls that take a source.
 
-ghost use Rattle.zmo_module.specs.Modules.{module_of};
-ghost use Rattle.zmo_module.specs.Rules.{IsModule};
+ghost use Rattle.zmo_object.specs.Modules.{module_of};
+ghost use Rattle.zmo_object.specs.Rules.{IsModule};
 
 use asm_macro::{Expander, MacroFault, expand};
 use asm_module::{Module, Why, assemble_with};

@@ -2,7 +2,7 @@
 
 use crate::table::table;
 use asm_expr::{Names, Room, Settled, Tree, constant, is_defined, items, parse, settle};
-use asm_scan::tokens;
+use asm_line::tokens;
 use std::alloc::Global;
 use std::io::Write;
 

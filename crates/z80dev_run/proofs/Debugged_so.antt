@@ -1,7 +1,7 @@
 -- What was debugged, by how it ended.
 use Rattle.std.proofs.Common.{◌≡◌, ℕ, List, Option, Result, Ok, Err, refl}
 use Rattle.std.specs.Result.{IfOk}
-use Rattle.streams.specs.Stream.{Stream}
+use Rattle.host.specs.Streams.Stream.{Stream}
 use Rattle.cpm_disk.specs.Calls.{Mounted}
 use Rattle.cpm_disk.specs.Image.{Image}
 use Rattle.cpm_run.specs.declared.arriving.Arrival.{Arrival}

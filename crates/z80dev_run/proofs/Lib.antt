@@ -1,11 +1,8 @@
-mod Order
 mod Read
 mod Told
 mod Traced
 mod Totals
 mod Leaving
 mod Printed
-mod Cutting
-mod Leftovers
-mod OneRecord
 mod Debugged_so
+mod Loud

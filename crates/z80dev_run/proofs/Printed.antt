@@ -2,11 +2,11 @@
 use Rattle.std.proofs.Common.{◌≡◌, ◌∙◌, ◌≢◌, ℕ, Bool, List, [], ◌∷◌, ◌++◌, Option, ap, append_assoc, refl, sym}
 use Rattle.std.specs.Io.KnownBytes.{Appends, Keeps, append_known}
 use Rattle.std.proofs.KnownBytes.{append_known-moved}
-use Rattle.screen_codes.specs.Codes.{next, next_for, screen_text, shown_for}
-use Rattle.screen_codes.specs.declared.codes.Codes.{Codes}
-use Rattle.screen_codes.specs.declared.codes.Codes.TheVariants.{Plain, Adm3a, Vt52}
-use Rattle.screen_codes.specs.declared.codes.Pending.{Pending}
-use Rattle.cpm_run.specs.Seat.{ShowsBytes}
+use Rattle.cpm_console.specs.Codes.{next, next_for, screen_text, shown_for}
+use Rattle.cpm_console.specs.declared.codes.Codes.{Codes}
+use Rattle.cpm_console.specs.declared.codes.Codes.TheVariants.{Plain, Adm3a, Vt52}
+use Rattle.cpm_console.specs.declared.codes.Pending.{Pending}
+use Rattle.cpm_console.specs.Seat.{ShowsBytes}
 use Rattle.z80dev_run.specs.Desk.{printed_for, seat_of}
 use Rattle.z80dev_run.specs.declared.desk.Keys.{Keys}
 

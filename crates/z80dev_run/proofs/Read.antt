@@ -8,7 +8,7 @@ use Rattle.cpm_console.specs.Dialog.{Dialog}
 use Rattle.cpm_disk.specs.Calls.{Mounted}
 use Rattle.cpm_disk.specs.Image.{Image}
 use Rattle.cpm_run.specs.Play.{IsPlayed, IsReplayed}
-use Rattle.cpm_run.specs.Seat.{Seat}
+use Rattle.cpm_console.specs.Seat.{Seat}
 use Rattle.cpm_run.specs.Run.{IsRun}
 use Rattle.cpm_run.specs.declared.arriving.Arrival.{Arrival}
 use Rattle.cpm_run.specs.declared.arriving.PlayEnd.{PlayEnd}

@@ -1,6 +1,6 @@
 -- How the line of a run that stopped is written.
 use Rattle.std.proofs.Common.{◌≢◌, ℕ, refl}
-use Rattle.streams.specs.Stream.{Stream}
+use Rattle.host.specs.Streams.Stream.{Stream}
 use Rattle.cpm_run.specs.declared.ending.Why.{Why}
 use Rattle.z80dev_run.specs.Ending.{Concludes, TellsStop}
 

@@ -1,24 +1,26 @@
 -- Somebody at standard input and standard output.
 use Rattle.std.specs.Prelude.{ℕ, ◌==◌, ◌&&◌, ◌||◌, Bool, false, List, [], ◌∷◌, Option, None, if◌then◌else◌, map, option_map}
 use Rattle.std.specs.Io.KnownBytes.{append_known}
-use Rattle.cpm_run.specs.Seat.{Seat}
-use Rattle.screen_codes.specs.Codes.{screen_text}
-use Rattle.screen_codes.specs.declared.codes.Codes.{Codes}
-use Rattle.screen_codes.specs.declared.codes.Codes.TheVariants.{Plain}
-use Rattle.screen_codes.specs.declared.codes.Pending.{Pending}
-use Rattle.screen_codes.specs.declared.screen.Screen.{Screen}
+use Rattle.cpm_console.specs.Seat.{Seat}
+use Rattle.cpm_console.specs.Codes.{screen_text}
+use Rattle.cpm_console.specs.declared.codes.Codes.{Codes}
+use Rattle.cpm_console.specs.declared.codes.Codes.TheVariants.{Plain}
+use Rattle.cpm_console.specs.declared.codes.Pending.{Pending}
+use Rattle.cpm_console.specs.declared.screen.Screen.{Screen}
+use Rattle.z80dev_run.specs.declared.desk.InputState.{InputState}
 use Rattle.z80dev_run.specs.declared.desk.Keys.{Keys}
 use Rattle.z80dev_run.specs.declared.desk.Keys.TheVariants as keys
 use Rattle.z80dev_run.specs.declared.rhythm.Rhythm.{Rhythm}
 
--- Standard input, standard output, and the screen that output is shown on; how keys come; when the keyboard was looked at; and whether the last
--- key is the first half of leaving.
+-- Standard input, standard output, and the screen that output is shown on; how keys come; when the keyboard was looked at; whether
+-- standard input can be read; and whether the last key is the first half of leaving.
 pub record DeskState (I S : Type 0) : Type 0 where
   pub input : I
   pub output : S
   pub screen : Screen
   pub keys : Keys
   pub rhythm : Rhythm
+  pub state : InputState
   pub is_leaving : Bool
 
 -- What is printed for bytes that a program puts, given what those before them have begun. Without screen codes it is these bytes.

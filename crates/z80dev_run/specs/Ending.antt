@@ -1,8 +1,8 @@
 -- How the command `run` ends after the image is written.
 use Rattle.std.specs.Prelude.{◌≡◌, ◌⊎◌, ℕ, List, Result, codes}
-use Rattle.streams.specs.Stream.{Stream}
-use Rattle.streams.specs.Writing.{Puts, error_line}
-use Rattle.streams.specs.declared.writing.WriteFailed.{WriteFailed}
+use Rattle.host.specs.Streams.Stream.{Stream}
+use Rattle.host.specs.Streams.Writing.{Puts, error_line}
+use Rattle.host.specs.declared.streams.writing.WriteFailed.{WriteFailed}
 use Rattle.cpm_run.specs.declared.ending.Why.{Why}
 use Rattle.cpm_run.specs.declared.ending.Why.TheVariants as why
 use Rattle.z80dev_run.specs.Stopped.{stopped_line}

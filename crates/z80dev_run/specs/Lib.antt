@@ -8,5 +8,6 @@ pub mod Registers
 pub mod Reports
 pub mod Profile
 pub mod Coverage
+pub mod Rhythm
 pub mod Desk
-pub mod Private
+pub mod Owing

@@ -1,14 +1,13 @@
 -- What the command `run` does with the bytes of its files and of standard input.
-use Rattle.std.specs.Prelude.{◌≡◌, ◌++◌, ◌∷◌, ◌<◌, ◌^◌, [], ℕ, All, List, Ok, Err, Option, Result, codes, decimal, length, map}
-use Rattle.std.specs.List.{concat, flat_map}
-use Rattle.hex.specs.Hex.{encode_upper}
-use Rattle.streams.specs.Stream.{Stream}
+use Rattle.std.specs.Prelude.{◌≡◌, ℕ, List, Ok, Err, Option, Result, length, map}
+use Rattle.std.specs.List.{concat}
+use Rattle.host.specs.Streams.Stream.{Stream}
 use Rattle.cpm_console.specs.Dialog.{Dialog, dialog_of}
 use Rattle.cpm_disk.specs.Calls.{Mounted}
 use Rattle.cpm_disk.specs.Image.{Image}
 use Rattle.cpm_run.specs.declared.tracing.Left.{Left}
-use Rattle.cpm_run.specs.Play.{IsInOrder, IsPlayed, IsReplayed}
-use Rattle.cpm_run.specs.Seat.{Seat}
+use Rattle.cpm_run.specs.Play.{IsPlayed, IsReplayed}
+use Rattle.cpm_console.specs.Seat.{Seat}
 use Rattle.cpm_run.specs.Run.{IsRun}
 use Rattle.cpm_run.specs.declared.arriving.Arrival.{Arrival}
 use Rattle.cpm_run.specs.declared.arriving.PlayEnd.{PlayEnd}
@@ -71,27 +70,3 @@ abbrev pub IsReplayedRan : List ℕ → List (List ℕ) → List ℕ → ℕ →
 IsReplayedRan file words image steps recorded last before end turns pc left arrivals after =
     (disk : Mounted Image) × (then : Mounted Image) × IsMounted image (Ok disk)
     × IsReplayed (λ sectors. sectors) (λ sectors. 0) file words disk steps recorded last before end turns pc then arrivals after × (left ≡ concat then.device)
-
--- a line for each byte that came: the number of steps before it, and the byte in hexadecimal
-abbrev pub arrival_line : Arrival → List ℕ
-arrival_line arrival = decimal arrival.turn ++ codes " " ++ encode_upper (arrival.byte ∷ []) ++ codes "\n"
-
--- the line of the end: the number of steps, and the word END
-abbrev pub closing_line : ℕ → List ℕ
-closing_line turns = decimal turns ++ codes " END\n"
-
-abbrev pub record_text : List Arrival → ℕ → List ℕ
-record_text arrivals turns = flat_map arrival_line arrivals ++ closing_line turns
-
--- The number of steps has at most 64 bits, and the byte has 8.
-abbrev pub HasWidths : Arrival → Type 0
-HasWidths arrival = (arrival.turn < 2 ^ 64) × (arrival.byte < 256)
-
--- This is the text of a record, and its numbers of steps do not go down.
-pub record IsRecord (text : List ℕ) (arrivals : List Arrival) (last : ℕ) : Type 0 where
-  pub is : text ≡ record_text arrivals last
-  pub order : IsInOrder arrivals last
-
--- This is the text of no record whose numbers of steps have at most 64 bits and whose bytes have 8.
-abbrev pub IsNoRecord : List ℕ → Type 0
-IsNoRecord text = (arrivals : List Arrival) (last : ℕ) → All HasWidths arrivals → last < 2 ^ 64 → ¬ IsRecord text arrivals last

@@ -2,7 +2,7 @@
 use Rattle.std.specs.Prelude.{ℕ, ◌-◌, ◌%◌, ◌==◌, ◌&&◌, Bool, true, false, not, nat_le, nat_lt, List, [], ◌++◌, Option, Some, None, codes, drop, if◌then◌else◌, length, map, slice_get, take}
 use Rattle.z80_cpu.specs.State.{de, up_by, word_at}
 use Rattle.z80_cpu.specs.declared.registers.Cpu.{Cpu}
-use Rattle.cpm_fcb.specs.Fcbs.{fcb_at, name_of}
+use Rattle.cpm_disk.specs.Control.Fcbs.{fcb_at, name_of}
 use Rattle.cpm_bdos.specs.Functions.{function_of}
 use Rattle.cpm_bdos.specs.declared.function.Function.{Function}
 use Rattle.cpm_bdos.specs.declared.function.Function.TheVariants as function

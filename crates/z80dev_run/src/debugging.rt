@@ -9,8 +9,8 @@ ghost use Rattle.z80dev_run.specs.Program.{IsDebuggedRun, IsReadyToRun};
 use crate::running::Ready;
 use cpm_run::Arrival;
 use debugger::{DebugFault, Program, Symbol};
+use host::{Input, Sink};
 use std::alloc::Global;
-use streams::{Input, Sink};
 
 impl Ready<'_, '_> {
     /// Debugs the program: reads commands, a line each, and prints each answer before more is read. The bytes of a record come after their

@@ -1,20 +1,22 @@
 //! Somebody at standard input and standard output.
 
 ghost use Rattle.std.specs.Prelude.{◌≡◌, ◌<◌, ◌≤◌, ◌≢◌, ◌++◌, ℕ, List, EachIndex, Ok, false, if◌then◌else◌, length, slice_index, true};
-ghost use Rattle.cpm_run.specs.Seat.{Hears, TriesToShow};
-ghost use Rattle.cpm_run.specs.declared.station.Came.TheVariants as came;
-ghost use Rattle.screen_codes.specs.declared.codes.Pending.TheVariants.{Nothing};
+ghost use Rattle.cpm_console.specs.Seat.{Hears, SeatEvent, TriesToShow, shown_event};
+ghost use Rattle.cpm_console.specs.declared.station.Came.TheVariants as came;
+ghost use Rattle.cpm_console.specs.declared.codes.Pending.TheVariants.{Nothing};
 ghost use Rattle.z80dev_run.specs.Desk.{as_keys, desk_seat, has_left, leaves_by, line_key};
-ghost use Rattle.z80dev_run.specs.Private.Rhythm.{HasRead, after_asking, after_look, after_showing, is_due};
+ghost use Rattle.z80dev_run.specs.Rhythm.{HasRead, rhythm_after_asking, rhythm_after_look, rhythm_after_showing, is_read_due};
+ghost use Rattle.z80dev_run.specs.Owing.{DeskOwes, LookOwes, counts_of};
+ghost use Rattle.z80dev_run.specs.declared.desk.InputState.TheVariants as state;
 ghost use Rattle.z80dev_run.specs.declared.desk.Keys.TheVariants as keys;
 
 use crate::input::{CR, LF};
 use crate::rhythm::Rhythm;
+use cpm_console::{Codes, Screen};
 use cpm_run::{Came, Patience, Station, StationFault};
-use screen_codes::{Codes, Screen};
+use host::{Input, ReadFault, Sink, print};
 use std::alloc::Global;
 use std::marker::Model;
-use streams::{Input, ReadFault, Sink, print};
 
 /// At most this number of times standard input is read: ten times a second for 13 years.
 const MOST_LISTENS: u64 = 4_294_967_296;
@@ -33,7 +35,7 @@ pub enum Keys {
 
 /// What is known of standard input.
 #[derive(Clone, Copy)]
-enum InputState {
+pub(crate) enum InputState {
     /// It can be read.
     Open,
     /// Nothing is left.
@@ -61,17 +63,17 @@ pub struct Desk<I: Input, S: Sink> {
 
 impl<I: Input, S: Sink> Model for Desk<I, S> {
     ghost use Rattle.std.specs.Io.KnownBytes.{IsAtEnd};
-    ghost use Rattle.std.specs.Prelude.{◌≡◌, ◌≢◌, ◌≤◌, false};
+    ghost use Rattle.std.specs.Prelude.{◌≡◌, ◌≢◌, ◌≤◌, false, true};
     ghost use Rattle.z80dev_run.specs.Desk.{DeskState};
     ghost use Rattle.z80dev_run.specs.declared.desk.Keys.TheVariants.{Raw};
-    ghost use Rattle.z80dev_run.specs.declared.desk.InputState.TheVariants.{Open, Ended};
+    ghost use Rattle.z80dev_run.specs.declared.desk.InputState.TheVariants.{Open, Ended, Failed};
     ghost use Rattle.z80dev_run.specs.declared.desk.TheConstants.{MOST_LISTENS};
 
     ghost Value = { DeskState I S };
 
-    ghost view = { λ d. record { input = d.input; output = d.output; screen = d.screen; keys = d.keys; rhythm = d.rhythm; is_leaving = d.is_leaving } };
+    ghost view = { λ d. record { input = d.input; output = d.output; screen = d.screen; keys = d.keys; rhythm = d.rhythm; state = d.state; is_leaving = d.is_leaving } };
 
-    ghost invariant = { λ d. (d.state ≡ Open → I.failed d.input ≡ false) × (d.state ≡ Ended → IsAtEnd (I.remaining d.input)) × (d.keys ≡ Raw → d.state ≢ Ended) × (I.reads d.input ≡ d.reads) × (d.reads ≤ MOST_LISTENS) };
+    ghost invariant = { λ d. (d.state ≡ Open → I.failed d.input ≡ false) × (d.state ≡ Failed → I.failed d.input ≡ true) × (d.state ≡ Ended → IsAtEnd (I.remaining d.input)) × (d.keys ≡ Raw → d.state ≢ Ended) × (I.reads d.input ≡ d.reads) × (d.reads ≤ MOST_LISTENS) };
 }
 
 /// Whether the key Ctrl-\ is pressed twice, given whether it was the last key before these.
@@ -113,7 +115,8 @@ impl<I: Input, S: Sink> Desk<I, S> {
         ensures output { result.output ≡ output }
         ensures screen { result.screen ≡ record { codes = codes; pending = Nothing } }
         ensures keys { result.keys ≡ keys }
-        ensures rhythm { result.rhythm ≡ record { paused = 0; heard = 0; is_busy = true } }
+        ensures rhythm { result.rhythm ≡ record { paused = 0; heard = 0; is_busy = true; allowance = 1048576 } }
+        ensures state { result.state ≡ state.Open }
         ensures half { result.is_leaving ≡ false }
     {
         Desk {
@@ -140,8 +143,8 @@ impl<I: Input, S: Sink> Desk<I, S> {
 
     /// Whether the keyboard is to be looked at now.
     fn is_due(&mut self, turns: u64, patience: Patience) -> bool
-        ensures due { result ≡ is_due self.old.keys self.old.rhythm turns patience }
-        ensures next { self.new ≡ record self.old { rhythm = after_asking self.old.keys self.old.rhythm turns patience } }
+        ensures due { result ≡ is_read_due self.old.keys self.old.rhythm turns patience }
+        ensures next { self.new ≡ record self.old { rhythm = rhythm_after_asking self.old.keys self.old.rhythm turns patience } }
     {
         self.rhythm.is_due(self.keys, turns, patience)
     }
@@ -156,6 +159,7 @@ impl<I: Input, S: Sink> Desk<I, S> {
         ensures screen { self.new.screen ≡ self.old.screen }
         ensures keys { self.new.keys ≡ self.old.keys }
         ensures rhythm { self.new.rhythm ≡ self.old.rhythm }
+        ensures state { self.new.state ≡ self.old.state }
     {
         if self.keys == Keys::Lines {
             make_returns(bytes);
@@ -176,7 +180,11 @@ impl<I: Input, S: Sink> Desk<I, S> {
         ensures raw { self.old.keys ≡ keys.Raw → result ≢ Ok came.End }
         ensures hears { Hears (desk_seat self.old (I.remaining self.old.input) (S.stream self.old.output).bytes) (desk_seat self.new (I.remaining self.new.input) (S.stream self.new.output).bytes) result buffer.new }
         ensures reads { HasRead result (I.reads self.old.input) (I.reads self.new.input) }
-        ensures rhythm { self.new.rhythm ≡ after_look turns result }
+        ensures rhythm { self.new.rhythm ≡ rhythm_after_look turns result }
+        ensures keys { self.new.keys ≡ self.old.keys }
+        ensures screen { self.new.screen ≡ self.old.screen }
+        ensures output { self.new.output ≡ self.old.output }
+        ensures owed { LookOwes (counts_of self.old (I.reads self.old.input) (I.interruptions self.old.input) (I.failed self.old.input) (I.remaining self.old.input) (S.stream self.old.output).failures) (counts_of self.new (I.reads self.new.input) (I.interruptions self.new.input) (I.failed self.new.input) (I.remaining self.new.input) (S.stream self.new.output).failures) result }
     {
         self.rhythm.read_at(turns);
         match self.state {
@@ -215,10 +223,11 @@ impl<I: Input, S: Sink> Desk<I, S> {
     ) -> Result<Came, StationFault>
         ensures hears { Hears (desk_seat self.old (I.remaining self.old.input) (S.stream self.old.output).bytes) (desk_seat self.new (I.remaining self.new.input) (S.stream self.new.output).bytes) result buffer.new }
         ensures no_room { length buffer.old ≡ 0 → (result ≡ Ok (came.Bytes 0)) × (self.new ≡ self.old) }
-        ensures not_due { 0 < length buffer.old → is_due self.old.keys self.old.rhythm turns patience ≡ false
-            → (result ≡ Ok (came.Bytes 0)) × (self.new ≡ record self.old { rhythm = after_asking self.old.keys self.old.rhythm turns patience }) }
-        ensures due { 0 < length buffer.old → is_due self.old.keys self.old.rhythm turns patience ≡ true
-            → (self.new.rhythm ≡ after_look turns result) × HasRead result (I.reads self.old.input) (I.reads self.new.input) }
+        ensures not_due { 0 < length buffer.old → is_read_due self.old.keys self.old.rhythm turns patience ≡ false
+            → (result ≡ Ok (came.Bytes 0)) × (self.new ≡ record self.old { rhythm = rhythm_after_asking self.old.keys self.old.rhythm turns patience }) }
+        ensures due { 0 < length buffer.old → is_read_due self.old.keys self.old.rhythm turns patience ≡ true
+            → (self.new.rhythm ≡ rhythm_after_look turns result) × HasRead result (I.reads self.old.input) (I.reads self.new.input) }
+        ensures owed { 0 < length buffer.old → DeskOwes (counts_of self.old (I.reads self.old.input) (I.interruptions self.old.input) (I.failed self.old.input) (I.remaining self.old.input) (S.stream self.old.output).failures) (counts_of self.new (I.reads self.new.input) (I.interruptions self.new.input) (I.failed self.new.input) (I.remaining self.new.input) (S.stream self.new.output).failures) (SeatEvent.asked turns patience result) }
     {
         // A read into a buffer without room gives nothing, which would look like the end of the input.
         if buffer.is_empty() || !self.is_due(turns, patience) {
@@ -230,12 +239,13 @@ impl<I: Input, S: Sink> Desk<I, S> {
     /// Shows bytes.
     fn show_bytes(&mut self, bytes: &[u8]) -> Result<(), StationFault>
         ensures shows { TriesToShow bytes.now (desk_seat self.old (I.remaining self.old.input) (S.stream self.old.output).bytes) (desk_seat self.new (I.remaining self.new.input) (S.stream self.new.output).bytes) result }
-        ensures rhythm { self.new.rhythm ≡ after_showing bytes.now self.old.rhythm }
+        ensures rhythm { self.new.rhythm ≡ rhythm_after_showing bytes.now self.old.rhythm }
+        ensures owed { DeskOwes (counts_of self.old (I.reads self.old.input) (I.interruptions self.old.input) (I.failed self.old.input) (I.remaining self.old.input) (S.stream self.old.output).failures) (counts_of self.new (I.reads self.new.input) (I.interruptions self.new.input) (I.failed self.new.input) (I.remaining self.new.input) (S.stream self.new.output).failures) (shown_event bytes.now result) }
     {
         if bytes.is_empty() {
             return Ok(());
         }
-        self.rhythm.work();
+        self.rhythm.show(bytes.len() as u64);
         if self.screen.codes == Codes::Plain {
             return match print(&mut self.output, bytes) {
                 Ok(()) => Ok(()),
@@ -255,8 +265,11 @@ impl<I: Input, S: Sink> Desk<I, S> {
 
 impl<I: Input, S: Sink> Station for Desk<I, S> {
     ghost use Rattle.z80dev_run.specs.Desk.{seat_of};
+    ghost use Rattle.z80dev_run.specs.Owing.{DeskOwes, counts_of};
 
     ghost seat = { λ d. seat_of d.screen.codes d.screen.pending d.keys d.is_leaving (I.remaining d.input) (S.stream d.output).bytes };
+
+    ghost owes = { λ old new event. DeskOwes (counts_of old (I.reads old.input) (I.interruptions old.input) (I.failed old.input) (I.remaining old.input) (S.stream old.output).failures) (counts_of new (I.reads new.input) (I.interruptions new.input) (I.failed new.input) (I.remaining new.input) (S.stream new.output).failures) event };
 
     fn listen(
         &mut self,

@@ -4,9 +4,8 @@ ghost use Rattle.z80dev_run.specs.Ending.{Concludes, TellsStop};
 
 use crate::stopped::stopped_line;
 use cpm_run::Why;
+use host::{DONE, REFUSED, Sink, put, tell};
 use std::alloc::Global;
-use streams::{Sink, put, tell};
-use z80dev_finish::{DONE, REFUSED};
 
 /// Writes the line that says why a run stopped, or that memory ran out for this line. If `errors` fails, it counts that, and nothing else
 /// changes.

@@ -4,10 +4,10 @@ ghost use Rattle.std.specs.Prelude.{◌≡◌, ℕ, List};
 ghost use Rattle.std.specs.List.{concat};
 ghost use Rattle.z80dev_run.specs.Program.{IsPlayedRan, IsReadyToRun, IsReplayedRan};
 
-use crate::recorded::Recorded;
 use crate::running::Ready;
 use cpm_image::MemoryImage;
 use cpm_run::{Arrival, PlayEnd, Station};
+use machine_history::Recorded;
 use std::alloc::Global;
 
 /// How a session ended, what it leaves, and the bytes that came.

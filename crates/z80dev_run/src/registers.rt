@@ -8,7 +8,7 @@ ghost use Rattle.z80dev_run.specs.Registers.{came_from, fcb_line, four_words, is
 use crate::labels::Labels;
 use crate::lines::label_of;
 use cpm_bdos::{Function, SearchCall};
-use cpm_fcb::Fcb;
+use cpm_disk::Fcb;
 use cpm_run::{BDOS, Left, TraceStep, bios_entry, is_finished};
 use state_text::{put_blanks, put_registers, put_word};
 use std::alloc::{AllocError, Global};

@@ -8,8 +8,8 @@ use cpm_console::StreamConsole;
 use cpm_disk::Disk;
 use cpm_image::MemoryImage;
 use cpm_run::{Left, Record, Why, Wish};
+use host::Sink;
 use std::alloc::Global;
-use streams::Sink;
 
 /// How a run ended, and what it leaves.
 #[derive(Drop)]

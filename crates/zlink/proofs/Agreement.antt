@@ -6,19 +6,19 @@ use Rattle.std.proofs.lemmas.List.{get_or-map, length-map}
 use Rattle.std.proofs.lemmas.Option.{slice_get-map}
 use Rattle.relax.specs.declared.shape.Statement.{Statement as Sized}
 use Rattle.relax.specs.declared.shape.Statement.TheVariants as sized
-use Rattle.certificate.specs.declared.shape.Statement.TheVariants as telling
+use Rattle.cert_check.specs.declared.shape.Statement.TheVariants as telling
 use Rattle.relax.specs.Choice.{Choice}
 use Rattle.relax.specs.Choice as ruler
-use Rattle.certificate.specs.Choice as cert
+use Rattle.cert_check.specs.Choice as cert
 use Rattle.relax.specs.Growth as growth
 use Rattle.relax.specs.declared.growth.Verdict.{Verdict}
 use Rattle.relax.specs.declared.growth.Verdict.TheVariants.{Best, Range, TooLarge}
-use Rattle.certificate.specs.Forcing as forcing
-use Rattle.certificate.specs.Accepts as accepts
+use Rattle.cert_check.specs.Forcing as forcing
+use Rattle.cert_check.specs.Accepts as accepts
 use Rattle.std.proofs.Math.Path.{fun_ext}
 use Rattle.std.proofs.lemmas.List.Elements.{All-map, All-weaker}
 use Rattle.relax.specs.declared.growth.Growth.{Growth}
-use Rattle.certificate.specs.Texts.{ReadsSizes, ReadsCert}
+use Rattle.cert_check.specs.Texts.{ReadsSizes, ReadsCert}
 use Rattle.zlink.specs.Certified.{IsCertified, told_size, told_verdict}
 
 size_of-same : (long : Bool) (s : Sized) → cert.size_of long (told_size s) ≡ ruler.size_of long s

@@ -7,9 +7,9 @@ use Rattle.std.proofs.lemmas.List.Concat.{flat_map-cons}
 use Rattle.relax.specs.Choice.{place}
 use Rattle.relax.specs.Growth.{after}
 use Rattle.asm_module.specs.declared.assembling.Lines as listing
-use Rattle.zmo_module.specs.Modules.{module_of}
-use Rattle.zmo_module.specs.Rules.{IsModule}
-use Rattle.zmo_module.specs.declared.module.Module as made
+use Rattle.zmo_object.specs.Modules.{module_of}
+use Rattle.zmo_object.specs.Rules.{IsModule}
+use Rattle.zmo_object.specs.declared.module.Module as made
 use Rattle.zlink.specs.Program.Laws.{statement_count}
 use Rattle.zlink.specs.Program.Whole as object
 use Rattle.zlink.specs.File.Objects as file

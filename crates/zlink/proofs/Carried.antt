@@ -14,10 +14,10 @@ use Rattle.relax.specs.Choice as choice
 use Rattle.relax.specs.Choice.{Choice, bytes_before, place}
 use Rattle.relax.proofs.Places.{place-next}
 use Rattle.asm_module.specs.Below.{IsLinkedAs, size_in_module, sizes}
-use Rattle.asm_statements.specs.Program.Linked.{IsSizedLike}
-use Rattle.asm_statements.specs.Program.Pieces.{IsPiece}
-use Rattle.asm_statements.specs.Program.Statement.{Statement}
-use Rattle.zmo_module.specs.Modules as object
+use Rattle.asm_module.specs.Program.Linked.{IsSizedLike}
+use Rattle.asm_module.specs.Program.Pieces.{IsPiece}
+use Rattle.asm_module.specs.Program.Statement.{Statement}
+use Rattle.zmo_object.specs.Modules as object
 use Rattle.zlink.specs.Program.Parts.{ModulePart, Publics, parts, parts_from, all_publics}
 use Rattle.zlink.specs.Program.Whole.{Placed, placed_statements, program, public_statement, stands}
 use Rattle.zlink.specs.File.Objects as file

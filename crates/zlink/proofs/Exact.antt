@@ -9,7 +9,7 @@ use Rattle.std.proofs.lemmas.Option.{get_or_from_slice_get, slice_get-get_or, sl
 use Rattle.std.proofs.lemmas.Slice.Zip.{AllZip-left}
 use Rattle.asm_module.specs.declared.fault.AsmFault.{AsmFault}
 use Rattle.asm_module.specs.Assembled.{Assembled, Assembles, HasCause, IsStated}
-use Rattle.asm_statements.specs.Program.Statement.{Statement}
+use Rattle.asm_module.specs.Program.Statement.{Statement}
 use Rattle.relax.specs.Choice.{Choice, IsValid}
 use Rattle.zlink.specs.declared.program.fault.JoinFault.{JoinFault}
 use Rattle.zlink.specs.Program.Faults.{first_fault}
@@ -22,7 +22,7 @@ use Rattle.zlink.specs.declared.source.Source.{Source}
 use Rattle.zlink.specs.Built.{IsBuilt}
 use Rattle.zlink.specs.Program.Whole as object
 use Rattle.zlink.specs.File.Objects as linked
-use Rattle.zmo_module.specs.Modules.{Module}
+use Rattle.zmo_object.specs.Modules.{Module}
 use Rattle.zlink.specs.declared.linking.Linked.{Linked}
 use Rattle.zlink.specs.Linked.{IsExactLink, IsLinked, link_fault}
 use Rattle.zlink.specs.Reads.{shape}

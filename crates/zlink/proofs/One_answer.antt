@@ -1,13 +1,13 @@
 -- Linking a list of modules has one answer, and building sources has the answer of linking their modules.
 use Rattle.std.proofs.Common.{◌≡◌, inl, inr, ℕ, Bool, List, Option, Some, None, Result, Ok, Err, map, refl, sym, ap, subst, ◌∙◌}
 use Rattle.std.specs.Prelude.{◌⊎◌}
-use Rattle.certificate.specs.Texts.{cert_text}
+use Rattle.cert_check.specs.Texts.{cert_text}
 use Rattle.asm_module.specs.declared.fault.AsmFault.{AsmFault}
 use Rattle.relax.specs.declared.shape.Statement.{Statement as Sized}
 use Rattle.relax.specs.Choice.{Choice, place}
 use Rattle.relax.specs.declared.growth.Verdict.{Verdict}
 use Rattle.relax.specs.Growth.{Holds, IsLeastFirst, after}
-use Rattle.zmo_module.specs.Modules.{Module}
+use Rattle.zmo_object.specs.Modules.{Module}
 use Rattle.zlink.specs.declared.program.fault.JoinFault.{JoinFault}
 use Rattle.zlink.specs.Program.Faults.{first_fault}
 use Rattle.zlink.specs.Program.Whole.{Placed, program}

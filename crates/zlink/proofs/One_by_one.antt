@@ -13,9 +13,9 @@ use Rattle.asm_module.specs.Assembled.{Assembled, Assembles, IsRefused, States, 
 use Rattle.asm_module.specs.Source.{source_fault as lines_fault}
 use Rattle.asm_module.specs.Below.{layout, numbered_statements, source_table}
 use Rattle.asm_module.specs.Reads.Read.{taken}
-use Rattle.zmo_module.specs.declared.module.Module as whole
-use Rattle.zmo_module.specs.Modules.{module_of}
-use Rattle.zmo_module.specs.Rules.{IsModule}
+use Rattle.zmo_object.specs.declared.module.Module as whole
+use Rattle.zmo_object.specs.Modules.{module_of}
+use Rattle.zmo_object.specs.Rules.{IsModule}
 use Rattle.zlink.specs.declared.source.Source.{Source}
 use Rattle.zlink.specs.Sources.{AreAssembled, Assembly, IsAssembly, IsFirstFaulty}
 use Rattle.zlink.specs.Private.Assembling.{AreHeld, IsKept, IsStop, fault_by}

@@ -12,12 +12,12 @@ use Rattle.z80_instr.specs.Codes.{Codes}
 use Rattle.relax.specs.declared.shape.Statement.{Statement as Sized}
 use Rattle.relax.specs.declared.shape.Statement.TheVariants as sized
 use Rattle.asm_module.specs.Below.{size_in_module}
-use Rattle.asm_statements.specs.Program.Linked.{IsSizedLike, target_in}
-use Rattle.asm_statements.specs.Program.Pieces as pieces
-use Rattle.asm_statements.specs.Program.Pieces.{IsPiece, datum_bytes, valued, width}
-use Rattle.asm_statements.specs.Program.Statement as statement
-use Rattle.asm_statements.specs.Program.Statement.{Datum, Statement, target_of}
-use Rattle.zmo_module.specs.Modules as object
+use Rattle.asm_module.specs.Program.Linked.{IsSizedLike, target_in}
+use Rattle.asm_module.specs.Program.Pieces as pieces
+use Rattle.asm_module.specs.Program.Pieces.{IsPiece, datum_bytes, valued, width}
+use Rattle.asm_module.specs.Program.Statement as statement
+use Rattle.asm_module.specs.Program.Statement.{Datum, Statement, target_of}
+use Rattle.zmo_object.specs.Modules as object
 use Rattle.zlink.specs.File.Objects.{sized_by}
 use Rattle.zlink.specs.Renumbered.{datum_in, refs_renumbered, statement_in}
 use Rattle.zlink.specs.Reads.{sized_as}

@@ -6,10 +6,10 @@ use Rattle.std.proofs.lemmas.List.Elements.{All-head, All-tail, recursion_from_A
 use Rattle.std.proofs.lemmas.Grind.{flat_map-append}
 use Rattle.std.proofs.lemmas.List.{append-nil, get_or-map, length-map, take_more}
 use Rattle.std.proofs.lemmas.Option.{get_or_from_slice_get, slice_get_within}
-use Rattle.zmo_module.specs.declared.module.Label.{Label}
-use Rattle.zmo_module.specs.Modules as object
-use Rattle.zmo_module.specs.Modules.{Module, label_of}
-use Rattle.zmo_module.specs.Rules.{IsLabel, IsModule}
+use Rattle.zmo_object.specs.declared.module.Label.{Label}
+use Rattle.zmo_object.specs.Modules as object
+use Rattle.zmo_object.specs.Modules.{Module, label_of}
+use Rattle.zmo_object.specs.Rules.{IsLabel, IsModule}
 use Rattle.zlink.specs.Program.Laws.{statement_count}
 use Rattle.zlink.specs.Program.Parts.{ModulePart, parts, parts_from}
 use Rattle.zlink.proofs.Programs.Laid_end_to_end.{count-cons}

@@ -15,8 +15,8 @@ use Rattle.zlink.specs.declared.building.Built as built
 use Rattle.zlink.specs.declared.origins.Origin as origin
 use Rattle.zlink.specs.declared.source.Source.{Source}
 use Rattle.zlink.specs.Judged.{IsBestAfter, IsUnfit}
-use Rattle.zmo_module.specs.Modules.{module_of}
-use Rattle.zmo_module.specs.Rules.{IsModule}
+use Rattle.zmo_object.specs.Modules.{module_of}
+use Rattle.zmo_object.specs.Rules.{IsModule}
 use Rattle.zlink.specs.Linked.{IsOutput, Output, link_fault, symbol_of}
 use Rattle.zlink.specs.Reads.{Reads, shape}
 use Rattle.zlink.specs.Sources.{Assembly, AreAssembled, IsFirstFaulty, modules_of, program_of}

@@ -4,12 +4,12 @@ use Rattle.relax.specs.declared.shape.Statement.{Statement as Sized}
 use Rattle.relax.specs.declared.shape.Statement.TheVariants as sized
 use Rattle.relax.specs.declared.growth.Verdict.{Verdict as Growing}
 use Rattle.relax.specs.declared.growth.Verdict.TheVariants as growing
-use Rattle.certificate.specs.declared.shape.Statement.{Statement as Told}
-use Rattle.certificate.specs.declared.shape.Statement.TheVariants as telling
-use Rattle.certificate.specs.declared.cert.Verdict.{Verdict}
-use Rattle.certificate.specs.declared.cert.Verdict.TheVariants as verdict
-use Rattle.certificate.specs.Texts.{cert_text, sizes_text}
-use Rattle.certificate.specs.Accepts.{Accepts}
+use Rattle.cert_check.specs.declared.shape.Statement.{Statement as Told}
+use Rattle.cert_check.specs.declared.shape.Statement.TheVariants as telling
+use Rattle.cert_check.specs.declared.cert.Verdict.{Verdict}
+use Rattle.cert_check.specs.declared.cert.Verdict.TheVariants as verdict
+use Rattle.cert_check.specs.Texts.{cert_text, sizes_text}
+use Rattle.cert_check.specs.Accepts.{Accepts}
 
 -- The linker and the checker share no types, so sizes and verdicts are translated into the checker's types.
 

@@ -3,7 +3,7 @@ use Rattle.std.specs.Prelude.{◌≡◌, ◌⊎◌, ℕ, ◌+◌, IsOk, List, So
 use Rattle.std.specs.List.{flat_map}
 use Rattle.relax.specs.Choice.{Choice, IsValid, place}
 use Rattle.relax.specs.Growth.{after}
-use Rattle.zmo_module.specs.Modules.{Module}
+use Rattle.zmo_object.specs.Modules.{Module}
 use Rattle.zlink.specs.declared.program.fault.JoinFault.{JoinFault}
 use Rattle.zlink.specs.Program.Faults.{first_fault}
 use Rattle.zlink.specs.Program.Parts.{parts}

@@ -5,9 +5,9 @@ use Rattle.z80_instr.specs.Table.{canonical}
 use Rattle.relax.specs.declared.shape.Statement.{Statement as Sized}
 use Rattle.relax.specs.declared.shape.Statement.TheVariants as sized
 use Rattle.relax.specs.Choice.{Choice}
-use Rattle.asm_statements.specs.Program.Pieces.{IsPiece, width}
-use Rattle.asm_statements.specs.Program.Statement as statement
-use Rattle.asm_statements.specs.Program.Statement.{Statement}
+use Rattle.asm_module.specs.Program.Pieces.{IsPiece, width}
+use Rattle.asm_module.specs.Program.Statement as statement
+use Rattle.asm_module.specs.Program.Statement.{Statement}
 use Rattle.zlink.specs.File.Reads.{ReadsBy}
 
 -- the size and target of a statement

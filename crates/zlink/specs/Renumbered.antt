@@ -2,8 +2,8 @@
 use Rattle.std.specs.Prelude.{ℕ, map}
 use Rattle.asm_parse.specs.Expression.{Expression, Leaf, Prefix, Infix}
 use Rattle.asm_expr.specs.Below.{Atom}
-use Rattle.asm_statements.specs.Program.Statement as statement
-use Rattle.asm_statements.specs.Program.Statement.{Datum, Statement}
+use Rattle.asm_module.specs.Program.Statement as statement
+use Rattle.asm_module.specs.Program.Statement.{Datum, Statement}
 
 abbrev pub refs_renumbered : (ℕ → ℕ) → Expression Atom → Expression Atom
 refs_renumbered to (Leaf (Atom.Number n)) = Leaf (Atom.Number n)

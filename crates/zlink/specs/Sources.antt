@@ -4,8 +4,8 @@ use Rattle.std.specs.List.{AllZip, flat_map, zip}
 use Rattle.asm_module.specs.declared.fault.AsmFault.{AsmFault}
 use Rattle.asm_module.specs.declared.fault.Why.{Why}
 use Rattle.asm_module.specs.Assembled.{Assembled, Assembles, IsStated}
-use Rattle.asm_statements.specs.Program.Statement.{Statement}
-use Rattle.zmo_module.specs.Modules.{Module}
+use Rattle.asm_module.specs.Program.Statement.{Statement}
+use Rattle.zmo_object.specs.Modules.{Module}
 use Rattle.zlink.specs.Program.Parts.{ModulePart, Publics, parts, all_publics}
 use Rattle.zlink.specs.Program.Whole.{stands}
 use Rattle.zlink.specs.declared.source.Source.{Source}

@@ -3,10 +3,10 @@
 ghost use Rattle.std.specs.Prelude.{◌≡◌, IfOk, map};
 ghost use Rattle.relax.specs.Choice.{IsShape};
 ghost use Rattle.relax.specs.Growth.{IsGrowth};
-ghost use Rattle.certificate.specs.Choice.{IsShape as IsToldShape};
+ghost use Rattle.cert_check.specs.Choice.{IsShape as IsToldShape};
 ghost use Rattle.zlink.specs.Certified.{IsCertified, told_size, told_verdict};
 
-use certificate::{Cert, print_cert, print_sizes};
+use cert_check::{Cert, print_cert, print_sizes};
 use relax::Growth;
 use std::alloc::{AllocError, Global};
 
@@ -18,29 +18,29 @@ pub(crate) struct Texts {
 }
 
 /// Converts a statement's size to the checker's type.
-fn tell(statement: relax::Statement) -> certificate::Statement
+fn tell(statement: relax::Statement) -> cert_check::Statement
     ensures { result ≡ told_size statement }
 {
     match statement {
-        relax::Statement::Fixed(size) => certificate::Statement::Fixed(size),
-        relax::Statement::Jump(target) => certificate::Statement::Jump(target),
-        relax::Statement::Short(target) => certificate::Statement::Short(target),
+        relax::Statement::Fixed(size) => cert_check::Statement::Fixed(size),
+        relax::Statement::Jump(target) => cert_check::Statement::Jump(target),
+        relax::Statement::Short(target) => cert_check::Statement::Short(target),
     }
 }
 
 /// Converts a verdict to the checker's type.
-fn tell_verdict(verdict: relax::Verdict) -> certificate::Verdict
+fn tell_verdict(verdict: relax::Verdict) -> cert_check::Verdict
     ensures { result ≡ told_verdict verdict }
 {
     match verdict {
-        relax::Verdict::Best(total) => certificate::Verdict::Best(total),
-        relax::Verdict::Range(statement) => certificate::Verdict::Range(statement),
-        relax::Verdict::TooLarge(total) => certificate::Verdict::TooLarge(total),
+        relax::Verdict::Best(total) => cert_check::Verdict::Best(total),
+        relax::Verdict::Range(statement) => cert_check::Verdict::Range(statement),
+        relax::Verdict::TooLarge(total) => cert_check::Verdict::TooLarge(total),
     }
 }
 
 /// Converts a shape to the checker's type.
-fn tell_shape(alloc: Global, shape: &relax::Shape) -> Result<certificate::Shape, AllocError>
+fn tell_shape(alloc: Global, shape: &relax::Shape) -> Result<cert_check::Shape, AllocError>
     ensures { IfOk result (λ s. s ≡ map told_size shape.now) }
 {
     let told = shape.statements();
@@ -48,7 +48,7 @@ fn tell_shape(alloc: Global, shape: &relax::Shape) -> Result<certificate::Shape,
     for statement in told {
         statements.push(tell(*statement))?;
     }
-    Ok(certificate::Shape::new(statements))
+    Ok(cert_check::Shape::new(statements))
 }
 
 /// Makes the sizes file of a shape, and the certificate with the order and the verdict of its growth.

@@ -1,8 +1,8 @@
 //! Links modules to a file.
 
 ghost use Rattle.std.specs.Prelude.{All, map};
-ghost use Rattle.zmo_module.specs.Modules.{module_of};
-ghost use Rattle.zmo_module.specs.Rules.{IsModule};
+ghost use Rattle.zmo_object.specs.Modules.{module_of};
+ghost use Rattle.zmo_object.specs.Rules.{IsModule};
 ghost use Rattle.zlink.specs.Linked.{IsExactLink, IsLinked};
 
 use crate::certify::{Texts, certify};
@@ -13,7 +13,7 @@ use crate::program::join;
 use crate::symbol::{Symbol, symbols_of};
 use relax::{Verdict, least};
 use std::alloc::Global;
-use zmo_module::Module;
+use zmo_object::Module;
 
 /// What linking modules gives.
 #[derive(Debug, Drop, PartialEq, Eq)]

@@ -1,15 +1,15 @@
 //! Collects the labels of the whole program.
 
 ghost use Rattle.std.specs.Prelude.{◌≡◌, ◌<◌, ◌+◌, ◌++◌, All, IfOk, OnOk, length, map, slice_index};
-ghost use Rattle.zmo_module.specs.Modules.{module_of};
-ghost use Rattle.zmo_module.specs.Rules.{IsModule};
+ghost use Rattle.zmo_object.specs.Modules.{module_of};
+ghost use Rattle.zmo_object.specs.Rules.{IsModule};
 ghost use Rattle.zlink.specs.Program.Whole.{AreLinks, program};
 ghost use Rattle.zlink.specs.Linked.{symbol_of, all_symbols, symbols_in};
 
 use crate::laws::laid_out;
 use crate::program::Links;
 use std::alloc::{AllocError, Global};
-use zmo_module::Module;
+use zmo_object::Module;
 
 /// A label and its address.
 #[derive(Debug, Drop, PartialEq, Eq)]

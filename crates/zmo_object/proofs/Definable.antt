@@ -7,8 +7,8 @@ use Rattle.std.proofs.lemmas.Bool.{not-true, not_from_false}
 use Rattle.std.proofs.lemmas.Bool.Decides.{Decides-and, Decides-like}
 use Rattle.std.proofs.lemmas.List.Sums.{AllPass-from_list_all, list_all-from_AllPass}
 use Rattle.std.proofs.lemmas.Slice.Eq.{bytes_eq-Decides}
-use Rattle.asm_scan.specs.Classes.{begins_name, continues_name}
-use Rattle.asm_scan.specs.Tokens.{IsName}
+use Rattle.asm_line.specs.Classes.{begins_name, continues_name}
+use Rattle.asm_line.specs.Tokens.{IsName}
 use Rattle.common.specs.Words.{upper, is_reserved}
 use Rattle.asm_parse.specs.Names.{IsDefinable}
 use Rattle.zmo_object.specs.Reading.{is_definable, is_spelled}

@@ -4,14 +4,14 @@ use Rattle.std.specs.declared.vec.Vec.{Vec}
 use Rattle.std.specs.List.Sorted.{IsStrictlyIncreasing}
 use Rattle.std.proofs.lemmas.Bool.{cases_lt}
 use Rattle.std.proofs.lemmas.List.Elements.{All-nil, All-cons, All-get_or, All-head, All-tail, All-weaker}
-use Rattle.zmo_module.specs.declared.hole.Hole.{Hole}
-use Rattle.zmo_module.specs.declared.hole.Width.{Width}
-use Rattle.zmo_module.specs.declared.module.Label as label
-use Rattle.zmo_module.specs.declared.statement.Statement as statement
-use Rattle.zmo_module.specs.Holes.{LieWithin, width_size}
-use Rattle.zmo_module.specs.Modules as object
-use Rattle.zmo_module.specs.Modules.{Label, Module, ModuleStatement, label_of, module_of, statement_of}
-use Rattle.zmo_module.specs.Rules.{IsLabel, IsModule, IsObjectName, IsModuleStatement}
+use Rattle.zmo_object.specs.declared.module.hole.Hole.{Hole}
+use Rattle.zmo_object.specs.declared.module.hole.Width.{Width}
+use Rattle.zmo_object.specs.declared.module.Label as label
+use Rattle.zmo_object.specs.declared.module.statement.Statement as statement
+use Rattle.zmo_object.specs.Holes.{LieWithin, width_size}
+use Rattle.zmo_object.specs.Modules as object
+use Rattle.zmo_object.specs.Modules.{Label, Module, ModuleStatement, label_of, module_of, statement_of}
+use Rattle.zmo_object.specs.Rules.{IsLabel, IsModule, IsObjectName, IsModuleStatement}
 use Rattle.zmo_object.specs.Private.{FitsHeader, FitsWords}
 
 -- in a strictly increasing list, element k is at least k

@@ -9,8 +9,8 @@ use Rattle.std.proofs.lemmas.List.{append-nil}
 use Rattle.std.proofs.lemmas.List.Elements.{All-cons, All-head, All-nil, All-tail}
 use Rattle.std.proofs.lemmas.Map.Keys.{IsDistinct-head, IsDistinct-push, IsDistinct-tail}
 use Rattle.std.proofs.lemmas.Slice.Eq.{bytes_eq-Decides}
-use Rattle.zmo_module.specs.Modules.{Label}
-use Rattle.zmo_module.specs.Rules.{IsLabel, IsObjectName}
+use Rattle.zmo_object.specs.Modules.{Label}
+use Rattle.zmo_object.specs.Rules.{IsLabel, IsObjectName}
 use Rattle.zmo_object.specs.declared.field_fault.FieldFault.{FieldFault}
 use Rattle.zmo_object.specs.Fields.Texts.{with_length, word_bytes}
 use Rattle.zmo_object.specs.Fields.Field.{IsBytes, counted_at, many, number_at}

@@ -6,11 +6,11 @@ use Rattle.std.proofs.lemmas.Bool.{and_parts, cases_eq, eq-eqb, eqb-true, ne_eqb
 use Rattle.common.specs.declared.limits.TheConstants.{MOST_BYTES}
 use Rattle.z80_instr.specs.declared.Branch.{Branch}
 use Rattle.z80_instr.specs.declared.ShortCond.{ShortCond}
-use Rattle.zmo_module.specs.declared.hole.Hole.{Hole}
-use Rattle.zmo_module.specs.Holes.{width_size}
-use Rattle.zmo_module.specs.Modules as object
-use Rattle.zmo_module.specs.Modules.{ModuleStatement}
-use Rattle.zmo_module.specs.Rules.{IsModuleStatement, IsAlwaysShort}
+use Rattle.zmo_object.specs.declared.module.hole.Hole.{Hole}
+use Rattle.zmo_object.specs.Holes.{width_size}
+use Rattle.zmo_object.specs.Modules as object
+use Rattle.zmo_object.specs.Modules.{ModuleStatement}
+use Rattle.zmo_object.specs.Rules.{IsModuleStatement, IsAlwaysShort}
 use Rattle.zmo_object.specs.declared.field_fault.FieldFault.TheVariants as field
 use Rattle.zmo_object.specs.Fields.Texts.{word_bytes}
 use Rattle.zmo_object.specs.Fields.Field.{Field, IsBytes, byte_field, bytes_field, code_field, many, number_at, word_field}

@@ -8,12 +8,12 @@ use Rattle.std.proofs.lemmas.List.Elements.{All-cons, All-from_get_or, All-get_o
 use Rattle.std.proofs.lemmas.List.Sums.{AllPass-from_list_all, list_all-from_AllPass}
 use Rattle.common.specs.Results.{◌>>=◌}
 use Rattle.asm_parse.specs.declared.item.Item.{Item}
-use Rattle.asm_value.specs.declared.atom.Atom.{Atom}
-use Rattle.asm_value.specs.Items.{IsExpr, is_within, refs}
-use Rattle.asm_value.proofs.Refs.{all_below, below_all}
-use Rattle.zmo_module.specs.declared.hole.Hole.{Hole}
-use Rattle.zmo_module.specs.declared.hole.Width.{Width}
-use Rattle.zmo_module.specs.Holes.{FitsWidth, IsHole, LieWithin, width_size}
+use Rattle.asm_parse.specs.declared.values.atom.Atom.{Atom}
+use Rattle.asm_parse.specs.Values.Items.{IsExpr, is_within, refs}
+use Rattle.asm_parse.proofs.Refs.{all_below, below_all}
+use Rattle.zmo_object.specs.declared.module.hole.Hole.{Hole}
+use Rattle.zmo_object.specs.declared.module.hole.Width.{Width}
+use Rattle.zmo_object.specs.Holes.{FitsWidth, IsHole, LieWithin, width_size}
 use Rattle.zmo_object.specs.declared.field_fault.FieldFault.{FieldFault}
 use Rattle.zmo_object.specs.declared.field_fault.FieldFault.TheVariants as fault
 use Rattle.zmo_object.specs.Fields.Texts.{with_length, expr_text, word_bytes}

@@ -8,9 +8,9 @@ use Rattle.std.proofs.lemmas.Bool.{cases_Bool}
 use Rattle.std.proofs.lemmas.List.{append-nil, drop_at, take-append-drop, take_at}
 use Rattle.std.proofs.lemmas.List.Elements.{All-cons, All-drop, All-head, All-nil, All-tail}
 use Rattle.std.proofs.lemmas.Slice.Eq.{bytes_eq-Decides}
-use Rattle.zmo_module.specs.declared.module.Module as whole
-use Rattle.zmo_module.specs.Modules.{Module, module_of}
-use Rattle.zmo_module.specs.Rules.{IsLabel, IsModule, IsModuleStatement}
+use Rattle.zmo_object.specs.declared.module.Module as whole
+use Rattle.zmo_object.specs.Modules.{Module, module_of}
+use Rattle.zmo_object.specs.Rules.{IsLabel, IsModule, IsModuleStatement}
 use Rattle.zmo_object.specs.Fields.Texts.{with_length, word_bytes}
 use Rattle.zmo_object.specs.Fields.Field.{Field, IsBytes}
 use Rattle.zmo_object.proofs.Fields.Taken.{Chain, Reads, joins, many_again, many_takes, then_is, then_takes}

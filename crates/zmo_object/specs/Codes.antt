@@ -3,7 +3,7 @@ use Rattle.std.specs.Prelude.{ℕ, ◌==◌, ◌&&◌, not, if◌then◌else◌,
 use Rattle.std.specs.Str.{bytes_eq}
 use Rattle.z80_instr.specs.declared.Branch.{Branch}
 use Rattle.z80_instr.specs.declared.ShortCond.{ShortCond}
-use Rattle.zmo_module.specs.declared.hole.Width.{Width}
+use Rattle.zmo_object.specs.declared.module.hole.Width.{Width}
 use Rattle.zmo_object.specs.declared.code.TheConstants.{BRANCHES, CONDITIONS}
 
 -- the first four bytes of an object file: ZMO2 if it was assembled with --grow, ZMO1 otherwise

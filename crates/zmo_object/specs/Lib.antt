@@ -1,3 +1,6 @@
+pub mod Holes
+pub mod Modules
+pub mod Rules
 pub mod Fields
 pub mod Codes
 pub mod Texts

@@ -1,8 +1,8 @@
 -- Only private contracts cite these definitions, so a reviewer may skip them.
 use Rattle.std.specs.Prelude.{◌≡◌, ◌≤◌, ℕ, List, [], ◌∷◌, ◌++◌, Result, Ok, Err, All, length, map}
-use Rattle.zmo_module.specs.declared.module.TheConstants.{LONGEST_NAME}
-use Rattle.zmo_module.specs.Modules as object
-use Rattle.zmo_module.specs.Modules.{Label, Module, ModuleStatement, label_of}
+use Rattle.zmo_object.specs.declared.module.TheConstants.{LONGEST_NAME}
+use Rattle.zmo_object.specs.Modules as object
+use Rattle.zmo_object.specs.Modules.{Label, Module, ModuleStatement, label_of}
 use Rattle.zmo_object.specs.declared.field_fault.FieldFault.{FieldFault}
 use Rattle.zmo_object.specs.Fields.Field.{FieldFails, Field}
 use Rattle.zmo_object.specs.declared.header.Counts as count

@@ -6,16 +6,16 @@ use Rattle.std.specs.Str.{bytes_eq}
 use Rattle.common.specs.declared.limits.TheConstants.{MOST_BYTES, MOST_NAMES, MOST_STATEMENTS}
 use Rattle.common.specs.Results.{◌>>=◌}
 use Rattle.common.specs.Words.{is_reserved, upper}
-use Rattle.asm_scan.specs.Classes.{begins_name, continues_name}
+use Rattle.asm_line.specs.Classes.{begins_name, continues_name}
 use Rattle.asm_parse.specs.declared.item.Item.{Item}
-use Rattle.asm_value.specs.declared.atom.Atom.{Atom}
-use Rattle.asm_value.specs.Items.{is_within}
-use Rattle.zmo_module.specs.declared.hole.Hole.{Hole}
-use Rattle.zmo_module.specs.declared.hole.Width.{Width}
-use Rattle.zmo_module.specs.Holes.{ends_in_byte, width_size}
-use Rattle.zmo_module.specs.Modules as object
-use Rattle.zmo_module.specs.Modules.{Label, Module, ModuleStatement, module_of}
-use Rattle.zmo_module.specs.declared.module.Module as whole
+use Rattle.asm_parse.specs.declared.values.atom.Atom.{Atom}
+use Rattle.asm_parse.specs.Values.Items.{is_within}
+use Rattle.zmo_object.specs.declared.module.hole.Hole.{Hole}
+use Rattle.zmo_object.specs.declared.module.hole.Width.{Width}
+use Rattle.zmo_object.specs.Holes.{ends_in_byte, width_size}
+use Rattle.zmo_object.specs.Modules as object
+use Rattle.zmo_object.specs.Modules.{Label, Module, ModuleStatement, module_of}
+use Rattle.zmo_object.specs.declared.module.Module as whole
 use Rattle.zmo_object.specs.declared.field_fault.FieldFault.{FieldFault}
 use Rattle.zmo_object.specs.declared.field_fault.FieldFault.TheVariants as field
 use Rattle.zmo_object.specs.Fields.Field.{Field, byte_field, bytes_field, code_field, counted_at, each_field, field_if_some, judged, tested_field, many, number_at, word_field}

@@ -3,9 +3,9 @@ use Rattle.std.specs.Prelude.{ℕ, ◌+◌, if◌then◌else◌, List, [], ◌�
 use Rattle.std.specs.List.{flat_map}
 use Rattle.std.specs.Option.{is_some}
 use Rattle.zmo_object.specs.Fields.Texts.{word_bytes, with_length, expr_text}
-use Rattle.zmo_module.specs.declared.hole.Hole.{Hole}
-use Rattle.zmo_module.specs.Modules as object
-use Rattle.zmo_module.specs.Modules.{Label, Module, ModuleStatement}
+use Rattle.zmo_object.specs.declared.module.hole.Hole.{Hole}
+use Rattle.zmo_object.specs.Modules as object
+use Rattle.zmo_object.specs.Modules.{Label, Module, ModuleStatement}
 use Rattle.zmo_object.specs.Codes.{branch_code, jump_condition_code, magic, width_code}
 
 abbrev pub hole_text : Hole → List ℕ

@@ -6,7 +6,7 @@ ghost use Rattle.zmo_object.specs.Codes.{branch_code, branch_of, jump_condition_
 
 use crate::field::byte;
 use crate::field_fault::FieldFault;
-use zmo_module::{Branch, ShortCond, Width};
+use crate::{Branch, ShortCond, Width};
 
 /// The conditions of a relaxable jump, in the order of their codes.
 pub const CONDITIONS: [Option<ShortCond>; 5] = [

@@ -1,18 +1,18 @@
 //! Reads and writes the header of an object file: name, flags, counts and entry.
 
 ghost use Rattle.std.specs.Prelude.{◌≡◌, ◌++◌, OnOk};
-ghost use Rattle.zmo_module.specs.Modules.{module_of};
+ghost use Rattle.zmo_object.specs.Modules.{module_of};
 ghost use Rattle.zmo_object.specs.Fields.Field.{FieldReturns};
 ghost use Rattle.zmo_object.specs.Texts.{counts_text, entry_text, flags, header_text};
 ghost use Rattle.zmo_object.specs.Reading.{counts_at, entry_field, flags_at, header_at};
 ghost use Rattle.zmo_object.specs.Private.{FitsHeader, counts_of, header_of};
 
+use crate::Module;
 use crate::field::{byte, counted, number, word};
 use crate::field_fault::FieldFault;
 use crate::put::{put_byte, put_counted, put_word};
 use common::{MOST_NAMES, MOST_STATEMENTS};
 use std::alloc::AllocError;
-use zmo_module::Module;
 
 /// The numbers of statements, labels, publics and externals.
 #[derive(Clone, Copy)]

@@ -2,8 +2,8 @@
 
 ghost use Rattle.std.specs.Prelude.{◌≡◌, ◌≤◌, ◌+◌, ◌++◌, OnOk, IfOk, All};
 ghost use Rattle.std.specs.List.{flat_map, list_all};
-ghost use Rattle.asm_value.specs.Items.{is_within};
-ghost use Rattle.zmo_module.specs.Holes.{width_size};
+ghost use Rattle.asm_parse.specs.Values.Items.{is_within};
+ghost use Rattle.zmo_object.specs.Holes.{width_size};
 ghost use Rattle.zmo_object.specs.Fields.Field.{FieldGives, many};
 ghost use Rattle.zmo_object.specs.Texts.{hole_text};
 ghost use Rattle.zmo_object.specs.Reading.{fits_width, fitting, hole_at, are_zeros, is_place, value_at, hole_expression};
@@ -14,9 +14,9 @@ use crate::field_fault::FieldFault;
 use crate::postfix::expr_of;
 use crate::put::{put_byte, put_expr, put_word};
 use crate::room::room;
-use asm_value::has_places;
+use crate::{Expr, Hole, Width, ends_in_byte};
+use asm_parse::has_places;
 use std::alloc::{AllocError, Global};
-use zmo_module::{Expr, Hole, Width, ends_in_byte};
 
 fn size_of(width: Width) -> usize
     ensures { result ≡ width_size width }

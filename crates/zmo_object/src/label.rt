@@ -2,14 +2,15 @@
 
 ghost use Rattle.std.specs.Prelude.{◌≡◌, ◌≤◌, ◌+◌, ◌++◌, ◌∷◌, [], OnOk, IfOk, All, length, map, true};
 ghost use Rattle.std.specs.List.{flat_map};
-ghost use Rattle.zmo_module.specs.declared.module.TheConstants.{LONGEST_NAME};
-ghost use Rattle.zmo_module.specs.Modules.{label_of};
+ghost use Rattle.zmo_object.specs.declared.module.TheConstants.{LONGEST_NAME};
+ghost use Rattle.zmo_object.specs.Modules.{label_of};
 ghost use Rattle.zmo_object.specs.Fields.Field.{FieldGives, many};
 ghost use Rattle.zmo_object.specs.Fields.Texts.{with_length, word_bytes};
 ghost use Rattle.zmo_object.specs.Texts.{label_text};
 ghost use Rattle.zmo_object.specs.Reading.{is_definable, is_new, label_field, lists_at, name_at, public_at, with_label, with_further_name};
 ghost use Rattle.zmo_object.specs.Private.{Labelled, Named, counts_of, lists_of};
 
+use crate::Label;
 use crate::field::{counted, number};
 use crate::field_fault::FieldFault;
 use crate::header::Counts;
@@ -19,7 +20,6 @@ use crate::room::room;
 use asm_parse::is_name;
 use common::NameKey;
 use std::alloc::{AllocError, Global};
-use zmo_module::Label;
 
 /// The fewest bytes that a label takes: the number of a statement, and a name of one byte with its length.
 const LEAST_LABEL: usize = 4;

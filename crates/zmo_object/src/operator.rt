@@ -4,7 +4,7 @@ ghost use Rattle.std.specs.Prelude.{◌≡◌};
 ghost use Rattle.zmo_object.specs.Fields.Texts.{binary_code, unary_code};
 ghost use Rattle.zmo_object.specs.Fields.Postfix.{operator_of};
 
-use asm_value::{Atom, Binary, Item, Unary};
+use asm_parse::{Atom, Binary, Item, Unary};
 
 /// The operators with one operand, in the order of their codes, from 10H on.
 pub const UNARIES: [Unary; 4] = [Unary::Negate, Unary::Not, Unary::High, Unary::Low];

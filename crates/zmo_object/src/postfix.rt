@@ -6,7 +6,7 @@ ghost use Rattle.asm_parse.specs.declared.item.Item.{Item};
 ghost use Rattle.zmo_object.specs.Fields.Postfix.{expr_of, item_at, items_of, leaf_at, whole};
 
 use crate::operator::operator_of;
-use asm_value::{Atom, Expr, Item, MOST_ITEMS};
+use asm_parse::{Atom, Expr, Item, MOST_ITEMS};
 use byteorder::{ByteOrder, LittleEndian};
 use std::alloc::{AllocError, Global};
 

@@ -1,11 +1,11 @@
 //! Appends fields to the bytes of an object file.
 
 ghost use Rattle.std.specs.Prelude.{◌≡◌, ◌≤◌, ◌++◌, ◌∷◌, [], OnOk, length};
-ghost use Rattle.asm_value.specs.declared.expr.TheConstants.{MOST_ITEMS};
+ghost use Rattle.asm_parse.specs.declared.values.expr.TheConstants.{MOST_ITEMS};
 ghost use Rattle.zmo_object.specs.Fields.Texts.{word_bytes, with_length, item_text, expr_text};
 
 use crate::operator::{binary_code, unary_code};
-use asm_value::{Atom, Expr, Item, MOST_ITEMS, Room, items};
+use asm_parse::{Atom, Expr, Item, MOST_ITEMS, Room, items};
 use byteorder::{ByteOrder, LittleEndian};
 use std::alloc::AllocError;
 

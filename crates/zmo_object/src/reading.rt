@@ -1,9 +1,9 @@
 //! Reads the module of an object file.
 
 ghost use Rattle.std.specs.Prelude.{◌≡◌, IfOk, map};
-ghost use Rattle.zmo_module.specs.Modules as object;
-ghost use Rattle.zmo_module.specs.Modules.{module_of, statement_of};
-ghost use Rattle.zmo_module.specs.Rules.{IsModule};
+ghost use Rattle.zmo_object.specs.Modules as object;
+ghost use Rattle.zmo_object.specs.Modules.{module_of, statement_of};
+ghost use Rattle.zmo_object.specs.Rules.{IsModule};
 ghost use Rattle.zmo_object.specs.Fields.Field.{FieldGives, each_field};
 ghost use Rattle.zmo_object.specs.Codes.{grow_of};
 ghost use Rattle.zmo_object.specs.Reading.{AnswersAsRead, answered_module, module_at, read_of, statement_at};
@@ -15,8 +15,8 @@ use crate::header::read_header;
 use crate::label::read_lists;
 use crate::room::room;
 use crate::statement::statement;
+use crate::{Module, Statement};
 use std::alloc::Global;
-use zmo_module::{Module, Statement};
 
 /// The fewest bytes that a statement takes: a jump or a DS line.
 const LEAST_STATEMENT: usize = 4;

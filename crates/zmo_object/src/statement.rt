@@ -1,7 +1,7 @@
 //! Reads and writes statements.
 
 ghost use Rattle.std.specs.Prelude.{◌≡◌, ◌++◌, OnOk};
-ghost use Rattle.zmo_module.specs.Modules.{Bytes, Jump, Short, Space, statement_of};
+ghost use Rattle.zmo_object.specs.Modules.{Bytes, Jump, Short, Space, statement_of};
 ghost use Rattle.zmo_object.specs.Fields.Field.{FieldGives};
 ghost use Rattle.zmo_object.specs.Texts.{statement_text};
 ghost use Rattle.zmo_object.specs.Reading.{content_at, jump_at, short_at, space_at, statement_at};
@@ -12,9 +12,9 @@ use crate::field::{byte, number, run, word};
 use crate::field_fault::FieldFault;
 use crate::hole::{holes, put_holes};
 use crate::put::{put_byte, put_word};
+use crate::{Branch, Hole, ShortCond, Statement};
 use common::MOST_BYTES;
 use std::alloc::{AllocError, Global};
-use zmo_module::{Branch, Hole, ShortCond, Statement};
 
 fn put_content(text: &mut Vec<u8>, bytes: &[u8], holes: &[Hole]) -> Result<(), AllocError>
     requires { FitsWords (Bytes bytes.now holes.now) }

@@ -2,16 +2,16 @@
 
 ghost use Rattle.std.specs.Prelude.{◌≡◌, ◌++◌, OnOk, IfOk, All, map};
 ghost use Rattle.std.specs.List.{flat_map};
-ghost use Rattle.zmo_module.specs.Modules.{module_of, statement_of};
-ghost use Rattle.zmo_module.specs.Rules.{IsModule};
+ghost use Rattle.zmo_object.specs.Modules.{module_of, statement_of};
+ghost use Rattle.zmo_object.specs.Rules.{IsModule};
 ghost use Rattle.zmo_object.specs.Texts.{statement_text, module_text};
 ghost use Rattle.zmo_object.specs.Private.{FitsWords};
 
 use crate::header::put_header;
 use crate::label::{put_externals, put_labels, put_publics};
 use crate::statement::put_statement;
+use crate::{Module, Statement};
 use std::alloc::{AllocError, Global};
-use zmo_module::{Module, Statement};
 
 /// Appends statements.
 fn put_statements(text: &mut Vec<u8>, statements: &[Statement]) -> Result<(), AllocError>

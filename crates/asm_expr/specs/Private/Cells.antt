@@ -2,8 +2,8 @@
 use Rattle.std.specs.Prelude.{◌≡◌, ◌≤◌, ◌-◌, Bool, true, false, List, [], ◌∷◌, length, map}
 use Rattle.std.proofs.Common.{get_or}
 use Rattle.asm_parse.specs.declared.item.Item.{Item}
-use Rattle.asm_value.specs.declared.atom.Atom.{Atom}
-use Rattle.asm_value.specs.Items.{IsExpr}
+use Rattle.asm_parse.specs.declared.values.atom.Atom.{Atom}
+use Rattle.asm_parse.specs.Values.Items.{IsExpr}
 use Rattle.asm_expr.specs.declared.part.Part.{Part}
 use Rattle.asm_expr.specs.declared.parts.Cell.{Cell}
 use Rattle.asm_expr.specs.Settling.{known_item}

@@ -4,7 +4,7 @@ use Rattle.std.specs.declared.vec.Vec.{Vec}
 use Rattle.asm_expr.specs.declared.answer.Settled.{Settled}
 use Rattle.asm_expr.specs.declared.meaning.Meaning.{Meaning}
 use Rattle.asm_expr.specs.declared.names.Entry.{Entry}
-use Rattle.asm_value.specs.declared.statement.Statement.{Statement}
+use Rattle.asm_parse.specs.declared.values.statement.Statement.{Statement}
 use Rattle.asm_expr.specs.Names.{Table, empty}
 use Rattle.asm_expr.specs.Private.Left.{IsLeft}
 

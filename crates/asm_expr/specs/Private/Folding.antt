@@ -8,11 +8,11 @@ use Rattle.asm_parse.specs.declared.item.Item.{Item}
 use Rattle.asm_expr.specs.declared.part.Part.{Part}
 use Rattle.asm_expr.specs.declared.single.Single.{Single}
 use Rattle.asm_expr.specs.declared.unknown.Unknown.{Unknown}
-use Rattle.asm_value.specs.declared.worth.Worth.{Worth}
+use Rattle.asm_parse.specs.declared.values.worth.Worth.{Worth}
 use Rattle.asm_parse.specs.Operators.{divides}
-use Rattle.asm_value.specs.Arithmetic.{unary, binary}
+use Rattle.asm_parse.specs.Values.Arithmetic.{unary, binary}
 use Rattle.asm_parse.specs.Expression.{Expression, Leaf, Prefix, Infix, postfix}
-use Rattle.asm_value.specs.Postfix.{spread}
+use Rattle.asm_parse.specs.Values.Postfix.{spread}
 use Rattle.asm_parse.specs.Source.{Operand}
 use Rattle.asm_expr.specs.Names.{Table}
 use Rattle.asm_expr.specs.Settling.{stands_for, operand_size, distance_of, or_else, through, both, leaf_or, divisor_fault, too_large, fault, replaced, reduced, worth_unknown}

@@ -4,9 +4,9 @@ use Rattle.asm_parse.specs.declared.item.Item.{Item}
 use Rattle.asm_parse.specs.declared.operator.Binary.{Binary}
 use Rattle.asm_parse.specs.Expression.{Expression, Leaf, Infix, postfix}
 use Rattle.asm_parse.specs.Source.{Operand, Here}
-use Rattle.asm_value.specs.declared.atom.Atom.{Atom}
+use Rattle.asm_parse.specs.declared.values.atom.Atom.{Atom}
 use Rattle.asm_expr.specs.declared.here.Offset.{Offset}
-use Rattle.asm_value.specs.Arithmetic.{binary}
+use Rattle.asm_parse.specs.Values.Arithmetic.{binary}
 
 abbrev pub is_sum : Binary → Bool
 is_sum Binary.Add = true

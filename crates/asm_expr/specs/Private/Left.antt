@@ -3,14 +3,14 @@ use Rattle.std.specs.Prelude.{◌≡◌, ◌≤◌, ℕ, List, [], ◌∷◌, Op
 use Rattle.asm_parse.specs.declared.item.Item.{Item}
 use Rattle.asm_parse.specs.Expression.{Expression}
 use Rattle.asm_parse.specs.Source.{Operand, Name}
-use Rattle.asm_value.specs.declared.atom.Atom.{Atom}
+use Rattle.asm_parse.specs.declared.values.atom.Atom.{Atom}
 use Rattle.asm_expr.specs.declared.answer.Settled.{Settled}
-use Rattle.asm_value.specs.declared.expr.TheConstants.{MOST_ITEMS}
+use Rattle.asm_parse.specs.declared.values.expr.TheConstants.{MOST_ITEMS}
 use Rattle.asm_expr.specs.declared.meaning.Meaning.{Meaning}
 use Rattle.asm_expr.specs.declared.part.Part.{Part}
-use Rattle.asm_value.specs.Items.{IsExpr}
+use Rattle.asm_parse.specs.Values.Items.{IsExpr}
 use Rattle.asm_expr.specs.Names.{Table, found}
-use Rattle.asm_value.specs.Postfix.{tree}
+use Rattle.asm_parse.specs.Values.Postfix.{tree}
 use Rattle.asm_expr.specs.Settling.{divisions_fault, known, reduced}
 
 -- No division in the expression has an error, and each fixed part is its number already.

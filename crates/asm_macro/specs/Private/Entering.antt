@@ -1,6 +1,6 @@
 -- The body of a call begins: it becomes the current lines.
 use Rattle.std.specs.Prelude.{◌≡◌, ◌+◌, ◌∷◌, ℕ, List}
-use Rattle.asm_replace.specs.Replaced.{ReplacementTable}
+use Rattle.asm_line.specs.Replacing.Replaced.{ReplacementTable}
 use Rattle.asm_text.specs.Calls.{body_lines}
 use Rattle.asm_text.specs.Sections.Onward as onward
 use Rattle.asm_macro.specs.Ahead.{Rest}

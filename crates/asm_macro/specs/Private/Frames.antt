@@ -1,6 +1,6 @@
 -- Where expansion continues after the current lines and the lines around them, as the code keeps it.
 use Rattle.std.specs.Prelude.{ℕ, ◌+◌, List, [], ◌∷◌, Option, Some, None, length}
-use Rattle.asm_replace.specs.Replaced.{ReplacementTable}
+use Rattle.asm_line.specs.Replacing.Replaced.{ReplacementTable}
 use Rattle.asm_text.specs.declared.book.Book.{Book}
 use Rattle.asm_text.specs.declared.following.Following.{Following}
 use Rattle.asm_text.specs.Sections.Books.{IsBook}

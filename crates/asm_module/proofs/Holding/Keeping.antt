@@ -9,7 +9,7 @@ use Rattle.asm_names.specs.declared.kind.Kind.{Kind}
 use Rattle.asm_names.specs.Names.{Names, names}
 use Rattle.asm_names.specs.Layout.{Layout, next_at}
 use Rattle.asm_names.specs.Meanings.{externals}
-use Rattle.zmo_module.specs.Rules.{IsLabel, IsObjectName}
+use Rattle.zmo_object.specs.Rules.{IsLabel, IsObjectName}
 use Rattle.asm_module.specs.Holding.{labels}
 
 abbrev Key : Type 0

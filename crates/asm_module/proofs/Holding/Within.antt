@@ -6,7 +6,7 @@ use Rattle.std.specs.Option.{IfSome, option_and_then}
 use Rattle.std.specs.Str.{bytes_eq}
 use Rattle.std.proofs.lemmas.List.Elements.{All-cons, All-nil}
 use Rattle.asm_names.specs.Lines.{Taken}
-use Rattle.zmo_module.specs.Modules.{Label}
+use Rattle.zmo_object.specs.Modules.{Label}
 use Rattle.asm_module.specs.Holding.{entry, entry_name, label_number, public_by, publics}
 
 -- the number is in this range

@@ -1,15 +1,15 @@
 -- What holds of the lines that were parsed.
 use Rattle.std.proofs.Common.{◌≡◌, refl, ap, All, List, [], ◌∷◌, None, Result, Ok, Err, map}
 use Rattle.std.proofs.lemmas.List.Elements.{All-cons, All-nil}
-use Rattle.asm_scan.specs.declared.fault.ScanFault.{ScanFault}
-use Rattle.asm_scan.specs.Scanned.{scanned}
-use Rattle.asm_scan.specs.Tokens.{Lexeme}
+use Rattle.asm_line.specs.declared.fault.ScanFault.{ScanFault}
+use Rattle.asm_line.specs.Scanned.{scanned}
+use Rattle.asm_line.specs.Tokens.{Lexeme}
 use Rattle.asm_spell.specs.declared.fault.StmtFault.{StmtFault}
 use Rattle.asm_spell.specs.Line.{Line}
 use Rattle.asm_spell.specs.Spelling.{spelled}
 use Rattle.asm_text.specs.Lines.{Numbered}
 use Rattle.asm_names.specs.Lines.{Taken}
-use Rattle.asm_statements.specs.Program.Spelled.{IsLineOfText}
+use Rattle.asm_module.specs.Program.Spelled.{IsLineOfText}
 use Rattle.asm_module.specs.declared.line_fault.LineFault.{LineFault}
 use Rattle.asm_module.specs.Reads.Read.{read_line, scanned_by, spelled_by, taken, unread, unread_or, with_line}
 

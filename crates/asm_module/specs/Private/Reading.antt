@@ -1,6 +1,6 @@
 -- What the code's own steps answer.
 use Rattle.std.specs.Prelude.{◌≡◌, ℕ, Bool, true, false, List, Result, Ok, Err}
-use Rattle.asm_scan.specs.declared.fault.ScanFault.{ScanFault}
+use Rattle.asm_line.specs.declared.fault.ScanFault.{ScanFault}
 use Rattle.asm_spell.specs.declared.fault.StmtFault.{StmtFault}
 use Rattle.asm_spell.specs.Line.{line_of}
 use Rattle.asm_spell.specs.Line as line

@@ -1,7 +1,7 @@
 -- The steps of assembling, as the code takes them.
 use Rattle.std.specs.Prelude.{◌≡◌, ℕ, Bool, List, [], ◌∷◌, Option, Some, None, Result, Ok, Err, Vec, take}
 use Rattle.std.specs.Global.{Global}
-use Rattle.zmo_module.specs.declared.module.TheConstants.{LONGEST_NAME}
+use Rattle.zmo_object.specs.declared.module.TheConstants.{LONGEST_NAME}
 use Rattle.asm_names.specs.Circles.{TellsCircles}
 use Rattle.asm_names.specs.Layout.{Layout}
 use Rattle.asm_names.specs.Meanings.{externals}
@@ -10,12 +10,12 @@ use Rattle.asm_names.specs.Faults.{first}
 use Rattle.asm_names.specs.Lines.{Taken}
 use Rattle.asm_names.specs.Names.{Names, names}
 use Rattle.asm_module.specs.declared.line_fault.LineFault.{LineFault}
-use Rattle.zmo_module.specs.declared.module.Module as whole
-use Rattle.zmo_module.specs.Modules.{Module, ModuleStatement, module_of}
+use Rattle.zmo_object.specs.declared.module.Module as whole
+use Rattle.zmo_object.specs.Modules.{Module, ModuleStatement, module_of}
 use Rattle.asm_module.specs.declared.fault.AsmFault.{AsmFault}
 use Rattle.asm_module.specs.declared.fault.Why.{Why}
 use Rattle.asm_module.specs.Holding.{begins, entry, labels, listed, publics}
-use Rattle.asm_statements.specs.Outlines as source
+use Rattle.asm_module.specs.Outlines as source
 use Rattle.asm_module.specs.Source.{fault_on_line, first_equ_line_fault, module_by, state_fault, statement_lines}
 use Rattle.asm_module.specs.Whys.{line_why, name_why}
 

@@ -1,8 +1,8 @@
 -- What the lines of an expansion parse as.
 use Rattle.std.specs.Prelude.{ℕ, List, [], ◌∷◌, Option, Some, None, Result, Ok, Err}
-use Rattle.asm_scan.specs.declared.fault.ScanFault.{ScanFault}
-use Rattle.asm_scan.specs.Scanned.{scanned}
-use Rattle.asm_scan.specs.Tokens.{Lexeme}
+use Rattle.asm_line.specs.declared.fault.ScanFault.{ScanFault}
+use Rattle.asm_line.specs.Scanned.{scanned}
+use Rattle.asm_line.specs.Tokens.{Lexeme}
 use Rattle.asm_spell.specs.declared.fault.StmtFault.{StmtFault}
 use Rattle.asm_spell.specs.Line.{Line}
 use Rattle.asm_spell.specs.Spelling.{spelled}

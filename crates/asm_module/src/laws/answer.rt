@@ -1,7 +1,7 @@
 //! Laws about the answer for a source. A law is a function that does nothing and whose clause is a theorem.
 
 ghost use Rattle.std.specs.Prelude.{◌≡◌, ℕ, Bool, List, Result};
-ghost use Rattle.asm_statements.specs.Program.Statement.{Statement};
+ghost use Rattle.asm_module.specs.Program.Statement.{Statement};
 ghost use Rattle.asm_module.specs.declared.fault.AsmFault.{AsmFault};
 ghost use Rattle.asm_module.specs.Assembled.{Assembled, Assembles, HasCause, IsStated};
 

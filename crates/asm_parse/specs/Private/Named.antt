@@ -2,7 +2,7 @@
 use Rattle.std.specs.Prelude.{◌==◌, ◌&&◌, ℕ, Bool, false, List, [], ◌∷◌}
 use Rattle.std.specs.List.{list_all}
 use Rattle.std.specs.Char.{to_ascii_uppercase}
-use Rattle.asm_scan.specs.Classes.{begins_name, continues_name}
+use Rattle.asm_line.specs.Classes.{begins_name, continues_name}
 
 abbrev pub is_one_name : List ℕ → Bool
 is_one_name [] = false

@@ -1,6 +1,6 @@
 -- How the code finds what a word or an instruction is.
 use Rattle.std.specs.Prelude.{ℕ, List, [], ◌∷◌, Result, codes}
-use Rattle.asm_scan.specs.Tokens.{Lexeme}
+use Rattle.asm_line.specs.Tokens.{Lexeme}
 use Rattle.asm_spell.specs.declared.fault.StmtFault.{StmtFault}
 use Rattle.asm_spell.specs.declared.directive.Directive.{Directive}
 use Rattle.asm_spell.specs.declared.jump.Jump as jump

@@ -1,10 +1,10 @@
 -- How the code cuts tokens into operands.
 use Rattle.std.specs.Prelude.{ℕ, suc, ◌==◌, ◌&&◌, ◌++◌, List, [], ◌∷◌, Option, Some, None, Result, Ok, Err, if◌then◌else◌}
 use Rattle.std.specs.Borrow.{Bor}
-use Rattle.asm_scan.specs.declared.token.Token.{Token}
-use Rattle.asm_scan.specs.Tokens.{Lexeme, lexemes}
+use Rattle.asm_line.specs.declared.token.Token.{Token}
+use Rattle.asm_line.specs.Tokens.{Lexeme, lexemes}
 use Rattle.asm_line.specs.Commas.{open_behind}
-use Rattle.asm_line.specs.Tokens.{is_comma}
+use Rattle.asm_line.specs.Single.{is_comma}
 use Rattle.asm_spell.specs.declared.fault.StmtFault.{StmtFault}
 use Rattle.asm_spell.specs.declared.operand.Written as written
 use Rattle.z80_form.specs.declared.mnemonic.Mnemonic.{Mnemonic}

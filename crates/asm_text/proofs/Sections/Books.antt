@@ -4,7 +4,7 @@ use Rattle.std.proofs.lemmas.List.{drop-map, length-map, take-map}
 use Rattle.common.specs.declared.limits.TheConstants.{LONGEST_TEXT}
 use Rattle.asm_text.specs.declared.matching.Role.{Role}
 use Rattle.asm_text.specs.Nesting.Blocks.{between}
-use Rattle.asm_replace.specs.Replaced.{ReplacementTable}
+use Rattle.asm_line.specs.Replacing.Replaced.{ReplacementTable}
 use Rattle.asm_text.specs.declared.book.Book.{Book}
 use Rattle.asm_text.specs.declared.span.Span.{Span}
 use Rattle.asm_text.specs.Lines.{form_of}

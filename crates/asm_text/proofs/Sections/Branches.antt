@@ -1,7 +1,7 @@
 -- The branches of an IF, one after the other.
 use Rattle.std.proofs.Common.{◌≡◌, ◌<◌, ◌≤◌, ◌+◌, ◌∙◌, sym, ap, refl, ℕ, zero, suc, List, [], ◌∷◌, ◌++◌, Option, map, drop, arith, append_assoc, append-nil, sum, fold, length, length-drop}
 use Rattle.asm_text.specs.Nesting.Blocks.{Lengths}
-use Rattle.asm_replace.specs.Replaced.{ReplacementTable}
+use Rattle.asm_line.specs.Replacing.Replaced.{ReplacementTable}
 use Rattle.asm_text.specs.declared.span.Span.{Span}
 use Rattle.asm_text.specs.Lines.{Numbered}
 use Rattle.asm_text.specs.Sections.Blocks.{Section, Branches, section, sections_of, branches_of_lengths}

@@ -1,6 +1,6 @@
 -- What follows a branch of an IF, and the lines of one repetition.
 use Rattle.std.proofs.Common.{◌≡◌, ◌<◌, ◌+◌, ◌-◌, ap, refl, ℕ, zero, suc, arith, List, [], ◌∷◌, ◌++◌, Option, Some, take, drop}
-use Rattle.asm_replace.specs.Replaced.{ReplacementTable}
+use Rattle.asm_line.specs.Replacing.Replaced.{ReplacementTable}
 use Rattle.asm_text.specs.declared.span.Span.{Span}
 use Rattle.asm_text.specs.Lines.{Numbered}
 use Rattle.asm_text.specs.Spans.{lines_from, text_of}

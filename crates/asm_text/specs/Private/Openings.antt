@@ -2,7 +2,7 @@
 use Rattle.std.specs.Prelude.{◌≡◌, Bool, true, false, ℕ, List, [], ◌∷◌, Some, None}
 use Rattle.asm_line.specs.declared.forms.BlockWord.{BlockWord}
 use Rattle.asm_line.specs.Forms as line
-use Rattle.asm_replace.specs.Views as replaced
+use Rattle.asm_line.specs.Replacing.Views as replaced
 use Rattle.asm_text.specs.declared.open.Local.{Local}
 use Rattle.asm_text.specs.Calls.{opened, with_locals}
 

@@ -4,12 +4,12 @@ use Rattle.std.specs.List.{list_any}
 use Rattle.std.specs.Map.{lookup}
 use Rattle.std.specs.Str.{bytes_eq}
 use Rattle.common.specs.Words.{upper}
-use Rattle.asm_scan.specs.Tokens.{Lexeme}
-use Rattle.asm_line.specs.Tokens.{is_colon, is_name}
+use Rattle.asm_line.specs.Tokens.{Lexeme}
+use Rattle.asm_line.specs.Single.{is_colon, is_name}
 use Rattle.asm_line.specs.Forms.{form}
 use Rattle.asm_text.specs.declared.matching.Role.{Role}
-use Rattle.asm_replace.specs.Fronts.{goes_on}
-use Rattle.asm_replace.specs.Replaced.{ReplacementTable}
+use Rattle.asm_line.specs.Replacing.Fronts.{goes_on}
+use Rattle.asm_line.specs.Replacing.Replaced.{ReplacementTable}
 use Rattle.asm_text.specs.declared.signs.Sign.{Sign}
 use Rattle.asm_text.specs.Lines.{heard}
 use Rattle.asm_text.specs.Roles.{role_of_head}

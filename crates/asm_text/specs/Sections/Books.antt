@@ -1,7 +1,7 @@
 -- What it means that a book is right about some lines, as a call shows them or as written.
 use Rattle.std.specs.Prelude.{◌≡◌, ℕ, ◌-◌, List, Option, map, take, drop}
 use Rattle.asm_text.specs.declared.matching.Role.{Role}
-use Rattle.asm_replace.specs.Replaced.{ReplacementTable}
+use Rattle.asm_line.specs.Replacing.Replaced.{ReplacementTable}
 use Rattle.asm_text.specs.Stands.{Stand, role_in}
 use Rattle.asm_text.specs.declared.book.Book.{Book}
 

@@ -1,7 +1,7 @@
 -- The parts of a block as the code keeps them, as lines with their numbers in a call.
 use Rattle.std.specs.Prelude.{ℕ, ◌+◌, List, [], Option, map, slice_index_or}
 use Rattle.std.specs.Option.{unwrap_or}
-use Rattle.asm_replace.specs.Replaced.{ReplacementTable}
+use Rattle.asm_line.specs.Replacing.Replaced.{ReplacementTable}
 use Rattle.asm_text.specs.declared.span.Span.{Span}
 use Rattle.asm_text.specs.Lines.{Numbered}
 use Rattle.asm_text.specs.Spans.{shown, text_of}

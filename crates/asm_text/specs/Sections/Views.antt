@@ -1,6 +1,6 @@
 -- Where the code continues, in the terms of the definitions.
 use Rattle.std.specs.Prelude.{ℕ, List, [], ◌∷◌, Option, map}
-use Rattle.asm_replace.specs.Replaced.{ReplacementTable}
+use Rattle.asm_line.specs.Replacing.Replaced.{ReplacementTable}
 use Rattle.asm_text.specs.Lines.{Numbered}
 use Rattle.asm_text.specs.Spans.{text_of}
 use Rattle.asm_text.specs.declared.following.Following.{Following}

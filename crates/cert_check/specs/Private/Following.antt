@@ -1,13 +1,13 @@
 use Rattle.std.specs.Prelude.{◌≡◌, ℕ, ◌+◌, ◌<◌, ◌≤◌, All, true, false, List, length, slice_index, take, Result, Ok, Err, Option, Some, None, Vec, Bool}
 use Rattle.std.specs.Global.{Global}
 use Rattle.std.specs.List.{slice_index_or}
-use Rattle.certificate.specs.declared.limits.TheConstants.{MOST_BYTES}
-use Rattle.certificate.specs.declared.shape.Statement.{Statement}
-use Rattle.certificate.specs.declared.cert.Verdict.{Verdict}
-use Rattle.certificate.specs.declared.cert.Verdict.TheVariants.{Best, Range, TooLarge}
-use Rattle.certificate.specs.Choice.{Choice, chosen, IsShape, IsAnyJump, Fits, size_at, total}
-use Rattle.certificate.specs.Forcing.{after, IsForcing}
-use Rattle.certificate.specs.Accepts.{IsOutOfRange, IsVerdictOf}
+use Rattle.cert_check.specs.declared.limits.TheConstants.{MOST_BYTES}
+use Rattle.cert_check.specs.declared.shape.Statement.{Statement}
+use Rattle.cert_check.specs.declared.cert.Verdict.{Verdict}
+use Rattle.cert_check.specs.declared.cert.Verdict.TheVariants.{Best, Range, TooLarge}
+use Rattle.cert_check.specs.Choice.{Choice, chosen, IsShape, IsAnyJump, Fits, size_at, total}
+use Rattle.cert_check.specs.Forcing.{after, IsForcing}
+use Rattle.cert_check.specs.Accepts.{IsOutOfRange, IsVerdictOf}
 use Rattle.cert_check.specs.Types.{CheckFault}
 use Rattle.cert_check.specs.declared.fault.CheckFault.TheVariants.{NotForced, NotAJump, Repeated, StillShort, WrongTotal, NotOutOfRange, NoMemory}
 use Rattle.cert_check.specs.Faults.{IsStillShort, HasTotal}

@@ -2,9 +2,9 @@
 use Rattle.std.specs.Prelude.{◌≡◌, ◌+◌, ℕ, List, [], ◌∷◌, length, Result, Ok, Err}
 use Rattle.cpm_console.specs.Line.{NoInput, Stored, Transcript, WarmBoot}
 use Rattle.cpm_console.specs.Screen.{Does, Screen, Stops}
-use Rattle.cpm_fcb.specs.Bytes.{with_bytes}
-use Rattle.cpm_fcb.specs.declared.stop.Stop.{Stop}
-use Rattle.cpm_fcb.specs.declared.stop.Stop.TheVariants as stop
+use Rattle.cpm_disk.specs.Control.Bytes.{with_bytes}
+use Rattle.cpm_disk.specs.declared.control.stop.Stop.{Stop}
+use Rattle.cpm_disk.specs.declared.control.stop.Stop.TheVariants as stop
 use Rattle.cpm_bdos.specs.declared.console.reply.Reply.{Reply}
 use Rattle.cpm_bdos.specs.declared.console.reply.Reply.TheVariants as reply
 

@@ -5,8 +5,8 @@ use Rattle.cpm_console.specs.Calls.{Gets, PutsByte}
 use Rattle.cpm_console.specs.Screen.{Screen}
 use Rattle.cpm_console.specs.declared.error.ConsoleError.{ConsoleError}
 use Rattle.cpm_console.specs.declared.error.ConsoleError.TheVariants as console
-use Rattle.cpm_fcb.specs.declared.stop.Stop.{Stop}
-use Rattle.cpm_fcb.specs.declared.stop.Stop.TheVariants as stop
+use Rattle.cpm_disk.specs.declared.control.stop.Stop.{Stop}
+use Rattle.cpm_disk.specs.declared.control.stop.Stop.TheVariants as stop
 
 abbrev pub console_stop : ConsoleError → Stop
 console_stop console.EndOfInput = stop.EndOfInput

@@ -4,8 +4,8 @@ use Rattle.std.specs.List.{list_any}
 use Rattle.cpm_console.specs.Dialog.{Event, Put, Took}
 use Rattle.cpm_console.specs.Screen.{Does, Screen, Stops}
 use Rattle.cpm_console.specs.Text.{before_dollar, bytes_from, text_shown}
-use Rattle.cpm_fcb.specs.declared.stop.Stop.{Stop}
-use Rattle.cpm_fcb.specs.declared.stop.Stop.TheVariants as stop
+use Rattle.cpm_disk.specs.declared.control.stop.Stop.{Stop}
+use Rattle.cpm_disk.specs.declared.control.stop.Stop.TheVariants as stop
 
 -- the bytes that pass during a call, and how the call ends
 pub record Talk (A : Type 0) : Type 0 where

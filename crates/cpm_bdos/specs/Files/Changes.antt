@@ -1,16 +1,16 @@
 -- Functions 22, 19 and 23: make, erase and rename files. (CP/M 2.2 Interface Guide.)
 use Rattle.std.specs.Prelude.{◌≡◌, ◌+◌, ◌-◌, ◌%◌, ℕ, List, Result, Ok, Err, replicate, ⊤}
-use Rattle.cpm_directory.specs.declared.layout.TheConstants.{ENTRY_BYTES, EX_OFFSET, RECORD_ENTRIES}
-use Rattle.cpm_directory.specs.declared.fault.DiskFault.{DiskFault}
-use Rattle.cpm_directory.specs.declared.fault.DiskFault.TheVariants as fault
-use Rattle.cpm_directory.specs.Letters.{letters}
+use Rattle.cpm_image.specs.declared.directory.layout.TheConstants.{ENTRY_BYTES, EX_OFFSET, RECORD_ENTRIES}
+use Rattle.cpm_image.specs.declared.directory.fault.DiskFault.{DiskFault}
+use Rattle.cpm_image.specs.declared.directory.fault.DiskFault.TheVariants as fault
+use Rattle.cpm_image.specs.Directory.Letters.{letters}
 use Rattle.cpm_disk.specs.Calls.{Mounted}
 use Rattle.cpm_disk.specs.Image.{Image}
 use Rattle.cpm_disk.specs.Operations.{IsCreated, IsErased, IsRenamed}
-use Rattle.cpm_fcb.specs.declared.stop.Stop.{Stop}
-use Rattle.cpm_fcb.specs.Bytes.{with_bytes}
-use Rattle.cpm_fcb.specs.Stops.{Done, Ends, Unless, done, stop_of}
-use Rattle.cpm_fcb.specs.Fcbs.{drive_judged, fcb_at, file_judged, name_of, names_judged, new_name_of}
+use Rattle.cpm_disk.specs.declared.control.stop.Stop.{Stop}
+use Rattle.cpm_disk.specs.Control.Bytes.{with_bytes}
+use Rattle.cpm_disk.specs.Control.Stops.{Done, Ends, Unless, done, stop_of}
+use Rattle.cpm_disk.specs.Control.Fcbs.{drive_judged, fcb_at, file_judged, name_of, names_judged, new_name_of}
 
 -- function 22: bytes 12 to 31 of the file control block become 0
 abbrev pub make_answer : ℕ → List ℕ → Result ℕ DiskFault → Result Done Stop

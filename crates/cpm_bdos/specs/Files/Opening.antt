@@ -1,16 +1,16 @@
 -- Functions 15 and 16: open and close files. (CP/M 2.2 Interface Guide.)
 use Rattle.std.specs.Prelude.{◌+◌, ◌*◌, ◌%◌, ℕ, nat_le, List, Option, Some, None, Result, Ok, if◌then◌else◌}
-use Rattle.cpm_directory.specs.declared.layout.TheConstants.{LAST_EXTENT, NAME_OFFSET, RECORD_ENTRIES, S2_EXTENTS, S2_VALUES}
+use Rattle.cpm_image.specs.declared.directory.layout.TheConstants.{LAST_EXTENT, NAME_OFFSET, RECORD_ENTRIES, S2_EXTENTS, S2_VALUES}
 use Rattle.cpm_image.specs.declared.kind.DiskKind.{DiskKind}
 use Rattle.cpm_image.specs.declared.kind.DiskKind.TheVariants.{EightInch, Megabyte}
-use Rattle.cpm_directory.specs.declared.pattern.Pattern.{Pattern}
-use Rattle.cpm_directory.specs.Letters.{letters}
+use Rattle.cpm_image.specs.declared.directory.pattern.Pattern.{Pattern}
+use Rattle.cpm_image.specs.Directory.Letters.{letters}
 use Rattle.cpm_disk.specs.Calls.{Mounted}
 use Rattle.cpm_disk.specs.Image.{Image}
-use Rattle.cpm_fcb.specs.declared.stop.Stop.{Stop}
-use Rattle.cpm_fcb.specs.Stops.{Done, unless_stopped, done}
-use Rattle.cpm_fcb.specs.Fcbs.{drive_judged, extent_of, fcb_at, file_judged, name_of, s2_of}
-use Rattle.cpm_fcb.specs.Files.{extent_found, entry_found, with_entry}
+use Rattle.cpm_disk.specs.declared.control.stop.Stop.{Stop}
+use Rattle.cpm_disk.specs.Control.Stops.{Done, unless_stopped, done}
+use Rattle.cpm_disk.specs.Control.Fcbs.{drive_judged, extent_of, fcb_at, file_judged, name_of, s2_of}
+use Rattle.cpm_disk.specs.Control.Files.{extent_found, entry_found, with_entry}
 
 -- the number of an entry modulo 4, or FFH
 abbrev pub code_of : Option ℕ → ℕ

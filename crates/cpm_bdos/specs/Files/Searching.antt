@@ -1,13 +1,13 @@
 -- Functions 17 and 18: search the directory. (CP/M 2.2 Interface Guide.)
 use Rattle.std.specs.Prelude.{◌≡◌, ◌+◌, ◌*◌, ◌/◌, ◌==◌, ℕ, nat_lt, List, Option, Some, None, option_map, Result, Ok, Err, if◌then◌else◌, ⊤}
 use Rattle.cpm_image.specs.Kind.{entry_count}
-use Rattle.cpm_directory.specs.declared.layout.TheConstants.{ENTRY_BYTES, RECORD_ENTRIES}
+use Rattle.cpm_image.specs.declared.directory.layout.TheConstants.{ENTRY_BYTES, RECORD_ENTRIES}
 use Rattle.cpm_disk.specs.Calls.{Mounted}
 use Rattle.cpm_disk.specs.Image.{Image}
-use Rattle.cpm_fcb.specs.declared.stop.Stop.{Stop}
-use Rattle.cpm_fcb.specs.Bytes.{with_bytes}
-use Rattle.cpm_fcb.specs.Fcbs.{drive_judged, drive_of, extent_of, fcb_at, name_of, question}
-use Rattle.cpm_fcb.specs.Files.{entry_bytes, entry_found}
+use Rattle.cpm_disk.specs.declared.control.stop.Stop.{Stop}
+use Rattle.cpm_disk.specs.Control.Bytes.{with_bytes}
+use Rattle.cpm_disk.specs.Control.Fcbs.{drive_judged, drive_of, extent_of, fcb_at, name_of, question}
+use Rattle.cpm_disk.specs.Control.Files.{entry_bytes, entry_found}
 use Rattle.cpm_bdos.specs.declared.files.search.Search.{Search}
 use Rattle.cpm_bdos.specs.declared.files.search.Sought.{Sought}
 use Rattle.cpm_bdos.specs.declared.files.search.Sought.TheVariants.{Every, Matching}

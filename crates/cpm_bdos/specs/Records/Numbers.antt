@@ -1,16 +1,16 @@
 -- Functions 35 and 36: the size of a file, and the number of the record that a file control block is at, in R0 to R2. (CP/M 2.2 Interface
 -- Guide.)
 use Rattle.std.specs.Prelude.{◌+◌, ◌/◌, ◌%◌, ℕ, List, [], ◌∷◌, Option, Some, None, Result}
-use Rattle.cpm_directory.specs.Letters.{letters}
+use Rattle.cpm_image.specs.Directory.Letters.{letters}
 use Rattle.cpm_disk.specs.Calls.{Mounted}
 use Rattle.cpm_disk.specs.Image.{Image}
 use Rattle.cpm_image.specs.declared.kind.DiskKind.{DiskKind}
-use Rattle.cpm_fcb.specs.declared.fcb.TheConstants.{R0_OFFSET}
-use Rattle.cpm_fcb.specs.declared.stop.Stop.{Stop}
-use Rattle.cpm_fcb.specs.Bytes.{with_bytes}
-use Rattle.cpm_fcb.specs.Stops.{Done, unless_stopped, done}
-use Rattle.cpm_fcb.specs.Fcbs.{fcb_at, file_judged, name_of}
-use Rattle.cpm_fcb.specs.Files.{file_size}
+use Rattle.cpm_disk.specs.declared.control.fcb.TheConstants.{R0_OFFSET}
+use Rattle.cpm_disk.specs.declared.control.stop.Stop.{Stop}
+use Rattle.cpm_disk.specs.Control.Bytes.{with_bytes}
+use Rattle.cpm_disk.specs.Control.Stops.{Done, unless_stopped, done}
+use Rattle.cpm_disk.specs.Control.Fcbs.{fcb_at, file_judged, name_of}
+use Rattle.cpm_disk.specs.Control.Files.{file_size}
 use Rattle.cpm_bdos.specs.Records.Places.{place_of, record_at}
 
 -- a number of 24 bits in R0 to R2, low byte first

@@ -1,12 +1,12 @@
 -- The position of a file control block in its file: EX, S2 and CR. (CP/M 2.2 Interface Guide, sequential access.)
 use Rattle.std.specs.Prelude.{◌+◌, ◌*◌, ◌%◌, ◌==◌, ◌||◌, ℕ, Bool, nat_lt, List, Option, Some, None, Result, Ok, Err, if◌then◌else◌, ⊤}
 use Rattle.cpm_image.specs.Kind.{last_high}
-use Rattle.cpm_directory.specs.declared.layout.TheConstants.{EXTENT_RECORDS, LAST_EXTENT, S2_RECORDS, S2_VALUES}
+use Rattle.cpm_image.specs.declared.directory.layout.TheConstants.{EXTENT_RECORDS, LAST_EXTENT, S2_RECORDS, S2_VALUES}
 use Rattle.cpm_image.specs.declared.kind.DiskKind.{DiskKind}
 use Rattle.cpm_image.specs.declared.kind.DiskKind.TheVariants.{EightInch, Megabyte}
-use Rattle.cpm_fcb.specs.declared.stop.Stop.{Stop}
-use Rattle.cpm_fcb.specs.declared.stop.Stop.TheVariants as stop
-use Rattle.cpm_fcb.specs.Fcbs.{current_of, extent_of, s2_of}
+use Rattle.cpm_disk.specs.declared.control.stop.Stop.{Stop}
+use Rattle.cpm_disk.specs.declared.control.stop.Stop.TheVariants as stop
+use Rattle.cpm_disk.specs.Control.Fcbs.{current_of, extent_of, s2_of}
 use Rattle.cpm_bdos.specs.declared.records.place.Place.{Place}
 
 abbrev pub place_of : List ℕ → Place

@@ -2,18 +2,18 @@
 use Rattle.std.specs.Prelude.{◌≡◌, ◌+◌, ◌==◌, ℕ, List, [], ◌∷◌, Option, Some, None, Result, Ok, Err, if◌then◌else◌, ⊤}
 use Rattle.cpm_image.specs.declared.kind.DiskKind.{DiskKind}
 use Rattle.cpm_image.specs.declared.format.TheConstants.{RECORD_BYTES}
-use Rattle.cpm_directory.specs.declared.layout.TheConstants.{EX_OFFSET, EXTENT_RECORDS, S2_OFFSET}
-use Rattle.cpm_directory.specs.declared.fault.DiskFault.{DiskFault}
-use Rattle.cpm_directory.specs.declared.fault.DiskFault.TheVariants as fault
-use Rattle.cpm_directory.specs.Letters.{letters}
+use Rattle.cpm_image.specs.declared.directory.layout.TheConstants.{EX_OFFSET, EXTENT_RECORDS, S2_OFFSET}
+use Rattle.cpm_image.specs.declared.directory.fault.DiskFault.{DiskFault}
+use Rattle.cpm_image.specs.declared.directory.fault.DiskFault.TheVariants as fault
+use Rattle.cpm_image.specs.Directory.Letters.{letters}
 use Rattle.cpm_disk.specs.Calls.{Mounted}
 use Rattle.cpm_disk.specs.Image.{Image}
 use Rattle.cpm_disk.specs.Operations.{IsRecordRead, IsRecordWritten}
-use Rattle.cpm_fcb.specs.declared.fcb.TheConstants.{CR_OFFSET}
-use Rattle.cpm_fcb.specs.declared.stop.Stop.{Stop}
-use Rattle.cpm_fcb.specs.Bytes.{bytes_at, with_bytes}
-use Rattle.cpm_fcb.specs.Stops.{Done, Ends, Unless, unless_stopped, done, stop_of}
-use Rattle.cpm_fcb.specs.Fcbs.{fcb_at, file_judged, name_of}
+use Rattle.cpm_disk.specs.declared.control.fcb.TheConstants.{CR_OFFSET}
+use Rattle.cpm_disk.specs.declared.control.stop.Stop.{Stop}
+use Rattle.cpm_disk.specs.Control.Bytes.{bytes_at, with_bytes}
+use Rattle.cpm_disk.specs.Control.Stops.{Done, Ends, Unless, unless_stopped, done, stop_of}
+use Rattle.cpm_disk.specs.Control.Fcbs.{fcb_at, file_judged, name_of}
 use Rattle.cpm_bdos.specs.declared.records.place.Place.{Place}
 use Rattle.cpm_bdos.specs.Records.Places.{place_judged, place_of, record_at, turned}
 use Rattle.cpm_bdos.specs.Records.Entries.{with_extent_entry}

@@ -2,13 +2,13 @@
 
 ghost use Rattle.cpm_console.specs.Line.{typed_line};
 ghost use Rattle.cpm_console.specs.Screen.{screen};
-ghost use Rattle.cpm_fcb.specs.Bytes.{memory_byte};
+ghost use Rattle.cpm_disk.specs.Control.Bytes.{memory_byte};
 ghost use Rattle.cpm_bdos.specs.Console.Lines.{ReadsLine};
 
 use crate::console::raw::stop_of;
 use crate::console::reply::Reply;
 use cpm_console::{Console, Terminal};
-use cpm_fcb::{Stop, put_field};
+use cpm_disk::{Stop, put_field};
 use z80_cpu::Memory;
 
 /// Function 10: reads an edited line to a buffer in memory. The first byte of the buffer says how many bytes it can take. The second

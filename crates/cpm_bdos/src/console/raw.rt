@@ -5,7 +5,7 @@ ghost use Rattle.cpm_console.specs.Screen.{screen};
 ghost use Rattle.cpm_bdos.specs.Console.Raw.{Directs, PutsRaw, TakesRaw, readiness, console_stop};
 
 use cpm_console::{Console, ConsoleError, Terminal};
-use cpm_fcb::Stop;
+use cpm_disk::Stop;
 
 /// With this argument, function 6 takes a byte instead of putting one.
 const ANY_INPUT: u8 = 0xFF;

@@ -6,7 +6,7 @@ ghost use Rattle.cpm_bdos.specs.Console.Texts.{Speaks, is_echoed, printed, put_t
 
 use crate::console::raw::stop_of;
 use cpm_console::{Console, Terminal};
-use cpm_fcb::Stop;
+use cpm_disk::Stop;
 use z80_cpu::Memory;
 
 /// Whether function 1 echoes this byte.

@@ -1,15 +1,13 @@
 //! Making, erasing and renaming files.
 
 ghost use Rattle.std.specs.Prelude.{◌≡◌, ◌<◌, ℕ, List, Err};
-ghost use Rattle.cpm_directory.specs.declared.entry.TheConstants.{USERS};
-ghost use Rattle.cpm_fcb.specs.Stops.{Ends};
+ghost use Rattle.cpm_image.specs.declared.directory.entry.TheConstants.{USERS};
+ghost use Rattle.cpm_disk.specs.Control.Stops.{Ends};
 ghost use Rattle.cpm_bdos.specs.Files.Changes.{ErasesFiles, Makes, RenamesFile, erase_answer, make_answer, rename_answer};
 
 use crate::files::opening::NOT_FOUND;
-use cpm_directory::{ENTRY_BYTES, EX_OFFSET, RECORD_ENTRIES};
-use cpm_disk::{Disk, DiskFault, Name, Pattern};
-use cpm_fcb::{Fcb, Stop, put_field, stop_of};
-use cpm_image::Sectors;
+use cpm_disk::{Disk, DiskFault, Fcb, Name, Pattern, Stop, put_field, stop_of};
+use cpm_image::{ENTRY_BYTES, EX_OFFSET, RECORD_ENTRIES, Sectors};
 use z80_cpu::Memory;
 
 /// How many bytes function 22 clears: from EX to the last block.

@@ -1,13 +1,11 @@
 //! Opening and closing files.
 
 ghost use Rattle.std.specs.Prelude.{◌≡◌};
-ghost use Rattle.cpm_fcb.specs.Stops.{Ends};
+ghost use Rattle.cpm_disk.specs.Control.Stops.{Ends};
 ghost use Rattle.cpm_bdos.specs.Files.Opening.{closed, code_of, extent_entry, fcb_extent_number, open_answer};
 
-use cpm_directory::{LAST_EXTENT, NAME_OFFSET, RECORD_ENTRIES, S2_EXTENTS, S2_VALUES};
-use cpm_disk::{Disk, DiskKind, Name, Pattern};
-use cpm_fcb::{Fcb, Stop, put_entry};
-use cpm_image::Sectors;
+use cpm_disk::{Disk, DiskKind, Fcb, Name, Pattern, Stop, put_entry};
+use cpm_image::{LAST_EXTENT, NAME_OFFSET, RECORD_ENTRIES, S2_EXTENTS, S2_VALUES, Sectors};
 use z80_cpu::Memory;
 
 /// The answer of a call that finds nothing.

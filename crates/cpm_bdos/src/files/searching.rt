@@ -6,10 +6,8 @@ ghost use Rattle.cpm_bdos.specs.Files.Searching.{SearchesFirst, search_answer, n
 
 use crate::files::opening::code_of;
 use crate::files::search::{Search, Sought};
-use cpm_directory::{ENTRY_BYTES, RECORD_ENTRIES};
-use cpm_disk::{Disk, Pattern};
-use cpm_fcb::{Fcb, QUESTION, Stop, put_bytes, put_field};
-use cpm_image::Sectors;
+use cpm_disk::{Disk, Fcb, Pattern, QUESTION, Stop, put_bytes, put_field};
+use cpm_image::{ENTRY_BYTES, RECORD_ENTRIES, Sectors};
 use z80_cpu::Memory;
 
 /// Function 17: searches for the first directory entry that matches a file control block, and copies the four entries of its record to

@@ -3,10 +3,8 @@
 ghost use Rattle.std.specs.Prelude.{◌≡◌, ◌<◌, ◌/◌};
 ghost use Rattle.cpm_bdos.specs.Records.Entries.{with_extent_entry};
 
-use cpm_directory::{EXTENT_RECORDS, RC_OFFSET};
-use cpm_disk::{Disk, Name};
-use cpm_fcb::put_entry;
-use cpm_image::Sectors;
+use cpm_disk::{Disk, Name, put_entry};
+use cpm_image::{EXTENT_RECORDS, RC_OFFSET, Sectors};
 use z80_cpu::Memory;
 
 /// Copies bytes 15 to 31 of the directory entry of a record's extent to a file control block.

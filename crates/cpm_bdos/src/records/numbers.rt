@@ -1,13 +1,12 @@
 //! Sets R0 to R2 of a file control block.
 
 ghost use Rattle.std.specs.Prelude.{◌≡◌, ◌<◌, ◌^◌};
-ghost use Rattle.cpm_directory.specs.declared.entry.TheConstants.{USERS};
-ghost use Rattle.cpm_fcb.specs.Stops.{Ends};
+ghost use Rattle.cpm_image.specs.declared.directory.entry.TheConstants.{USERS};
+ghost use Rattle.cpm_disk.specs.Control.Stops.{Ends};
 ghost use Rattle.cpm_bdos.specs.Records.Numbers.{record_number_stored, size_stored, with_random};
 
 use crate::records::place::Place;
-use cpm_disk::{Disk, DiskKind, Name};
-use cpm_fcb::{Fcb, R0_OFFSET, Stop, put_field};
+use cpm_disk::{Disk, DiskKind, Fcb, Name, R0_OFFSET, Stop, put_field};
 use cpm_image::Sectors;
 use z80_cpu::Memory;
 

@@ -1,8 +1,7 @@
 //! The position of a file control block in its file.
 
-use cpm_directory::{EXTENT_RECORDS, LAST_EXTENT, S2_RECORDS, S2_VALUES};
-use cpm_disk::DiskKind;
-use cpm_fcb::{Fcb, Stop};
+use cpm_disk::{DiskKind, Fcb, Stop};
+use cpm_image::{EXTENT_RECORDS, LAST_EXTENT, S2_RECORDS, S2_VALUES};
 
 /// The position of a file control block in its file: EX, S2 and CR.
 #[derive(Clone, Copy, Debug, PartialEq, Eq)]

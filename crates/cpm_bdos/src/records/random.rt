@@ -1,15 +1,15 @@
 //! Reads and writes records by number.
 
 ghost use Rattle.std.specs.Prelude.{◌≡◌, ◌<◌};
-ghost use Rattle.cpm_directory.specs.declared.entry.TheConstants.{USERS};
-ghost use Rattle.cpm_fcb.specs.Stops.{Ends};
+ghost use Rattle.cpm_image.specs.declared.directory.entry.TheConstants.{USERS};
+ghost use Rattle.cpm_disk.specs.Control.Stops.{Ends};
 ghost use Rattle.cpm_bdos.specs.Records.Random.{ReadsAt, WritesAt, can_have_record, refused_random_read, refused_random_write, with_place_of};
 
 use crate::records::entries::put_extent_entry;
-use cpm_directory::{EX_OFFSET, EXTENT_RECORDS, S2_EXTENTS, S2_OFFSET, S2_RECORDS};
-use cpm_disk::{Disk, DiskFault, DiskKind, Name};
-use cpm_fcb::{CR_OFFSET, Fcb, Stop, bytes_at, put_bytes, put_field, stop_of};
-use cpm_image::Sectors;
+use cpm_disk::{
+    CR_OFFSET, Disk, DiskFault, DiskKind, Fcb, Name, Stop, bytes_at, put_bytes, put_field, stop_of,
+};
+use cpm_image::{EX_OFFSET, EXTENT_RECORDS, S2_EXTENTS, S2_OFFSET, S2_RECORDS, Sectors};
 use z80_cpu::Memory;
 
 /// The answer of a read if the record was never written.

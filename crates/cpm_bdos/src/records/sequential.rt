@@ -1,17 +1,17 @@
 //! Reads and writes records one after the other.
 
 ghost use Rattle.std.specs.Prelude.{◌≡◌, ◌<◌, ◌≤◌, OnOk, ℕ, List};
-ghost use Rattle.cpm_directory.specs.declared.entry.TheConstants.{USERS};
-ghost use Rattle.cpm_fcb.specs.Stops.{Ends};
-ghost use Rattle.cpm_fcb.specs.Fcbs.{current_of};
+ghost use Rattle.cpm_image.specs.declared.directory.entry.TheConstants.{USERS};
+ghost use Rattle.cpm_disk.specs.Control.Stops.{Ends};
+ghost use Rattle.cpm_disk.specs.Control.Fcbs.{current_of};
 ghost use Rattle.cpm_bdos.specs.Records.Sequential.{ReadsNext, WritesNext, refused_read, refused_write, sequential_judged, with_extent, with_place, with_s2};
 
 use crate::records::entries::put_extent_entry;
 use crate::records::place::Place;
-use cpm_directory::{EX_OFFSET, EXTENT_RECORDS, S2_OFFSET};
-use cpm_disk::{Disk, DiskFault, DiskKind, Name};
-use cpm_fcb::{CR_OFFSET, Fcb, Stop, bytes_at, put_bytes, put_field, stop_of};
-use cpm_image::Sectors;
+use cpm_disk::{
+    CR_OFFSET, Disk, DiskFault, DiskKind, Fcb, Name, Stop, bytes_at, put_bytes, put_field, stop_of,
+};
+use cpm_image::{EX_OFFSET, EXTENT_RECORDS, S2_OFFSET, Sectors};
 use z80_cpu::Memory;
 
 /// The answer of a read if there is no such record.

@@ -1,5 +1,5 @@
 -- What a change of a file's entries leaves of an entry.
-use Rattle.cpm_directory.specs.declared.entry.Entry.{Entry}
+use Rattle.cpm_image.specs.declared.directory.entry.Entry.{Entry}
 use Rattle.cpm_disk.specs.Steps.{erased_by, marked_by, renamed_by}
 use Rattle.cpm_disk.specs.declared.change.Change.{Change}
 use Rattle.cpm_disk.specs.declared.change.Change.TheVariants.{Erase, Mark, Rename}

@@ -1,11 +1,11 @@
 -- Directory entries that are read from a device.
 use Rattle.std.specs.Prelude.{◌≡◌, ◌<◌, ◌+◌, ◌*◌, ℕ, List, length, take, drop}
 use Rattle.cpm_image.specs.Device.{HasRisen}
-use Rattle.cpm_directory.specs.declared.layout.TheConstants.{ENTRY_BYTES}
-use Rattle.cpm_directory.specs.declared.entry.Entry.{Entry}
-use Rattle.cpm_directory.specs.declared.fault.DiskFault.{DiskFault}
-use Rattle.cpm_directory.specs.declared.fault.DiskFault.TheVariants as fault
-use Rattle.cpm_directory.specs.Entries.{at, entry_of}
+use Rattle.cpm_image.specs.declared.directory.layout.TheConstants.{ENTRY_BYTES}
+use Rattle.cpm_image.specs.declared.directory.entry.Entry.{Entry}
+use Rattle.cpm_image.specs.declared.directory.fault.DiskFault.{DiskFault}
+use Rattle.cpm_image.specs.declared.directory.fault.DiskFault.TheVariants as fault
+use Rattle.cpm_image.specs.Directory.Entries.{at, entry_of}
 
 -- the old entries, followed by the entries in `count` parts of 32 bytes
 pub record Extended (old new : List Entry) (bytes : List ℕ) (count : ℕ) : Type 0 where

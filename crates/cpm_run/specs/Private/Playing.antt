@@ -1,5 +1,5 @@
 -- A session as the code keeps it.
-use Rattle.std.specs.Prelude.{◌≡◌, ◌≢◌, ◌<◌, ◌≤◌, ◌+◌, ◌++◌, ◌∷◌, ◌⊎◌, ℕ, Bool, true, false, List, [], Option, None, Some, Result, Ok, Err, option_map}
+use Rattle.std.specs.Prelude.{◌≡◌, ◌≢◌, ◌<◌, ◌≤◌, ◌+◌, ◌-◌, ◌++◌, ◌∷◌, ◌⊎◌, ℕ, Bool, true, false, List, [], Option, None, Some, Result, Ok, Err, option_map}
 use Rattle.std.specs.Io.KnownBytes.{Consumes, IsAtEnd, Keeps}
 use Rattle.z80_cpu.specs.State.{machine}
 use Rattle.cpm_disk.specs.Image.{Image}
@@ -7,15 +7,15 @@ use Rattle.cpm_run.specs.declared.ending.Why.{Why}
 use Rattle.cpm_run.specs.declared.arriving.PlayEnd.{PlayEnd}
 use Rattle.cpm_run.specs.declared.arriving.PlayEnd.TheVariants as play
 use Rattle.cpm_run.specs.declared.playing.state.Playing.{Playing}
-use Rattle.cpm_fcb.specs.declared.stop.Stop.TheVariants as stop
+use Rattle.cpm_disk.specs.declared.control.stop.Stop.TheVariants as stop
 use Rattle.cpm_run.specs.declared.ending.Why.TheVariants as why
 use Rattle.cpm_run.specs.Looks.{Attention, HoldsFew, MayStep, TakesLine, after_step, next_echo, patience_of, waits_after}
 use Rattle.cpm_run.specs.Play.{Arrives, Attends, CameBefore, EndsAttended, EndsBy, HasHappened, IsEcho, PlayState, PlaysOn, PlayedRunEnds, RunsTo, arrived, arrival_bytes}
 use Rattle.cpm_run.specs.declared.arriving.Arrival.{Arrival}
-use Rattle.cpm_run.specs.Seat.{Seat, SeatEvent, looks_in, with_events}
+use Rattle.cpm_console.specs.Seat.{Seat, SeatEvent, looks_in, with_events}
 use Rattle.cpm_run.specs.Turns.{is_finished}
-use Rattle.cpm_run.specs.declared.station.Patience.{Patience}
-use Rattle.cpm_run.specs.declared.station.Patience.TheVariants as how
+use Rattle.cpm_console.specs.declared.station.Patience.{Patience}
+use Rattle.cpm_console.specs.declared.station.Patience.TheVariants as how
 
 -- the session, given what was shown
 abbrev pub state_of : {S : Type 0} → Playing S → List ℕ → PlayState S
@@ -196,6 +196,7 @@ pub record Watched {S : Type 0} (sectors : S → Image) (faults : S → ℕ) (st
   pub ahead : a.ahead ≡ p.ahead.items
   pub last : a.last ≡ p.looked
   pub past : p.looked ≤ p.turns
+  pub allowance : p.allowance ≡ 1048576 - a.bulk
   pub ended : a.ended ≡ p.ended
 
 -- The run has ended, and the rest of what it put is still to be shown.
@@ -245,13 +246,14 @@ AfterLook sectors faults patience (Ok done) start before p after a =
     (b : Attention) × Watched sectors faults start before p after b × (b.here ≡ true) × (waits_after p.turns a.events + waited patience ≤ waits_after p.turns b.events)
 AfterLook sectors faults patience (Err end) start before p after a = HasStopped sectors faults end start before p after
 
--- The session has looked at the keyboard lately; and if the next step takes what has come, then since the last step, and all is shown.
+-- The session has looked at the keyboard lately, and has not shown much since; and if the next step takes what has come, then since the last step, and all is shown.
 pub record IsLooking {S : Type 0} (sectors : S → Image) (faults : S → ℕ) (start : PlayState S) (before : Seat) (p : Playing S) (after : Seat) : Type 0 where
   pub so_far : Attention
   pub watched : Watched sectors faults start before p after so_far
   pub polled : patience_of p.cpu ≡ how.Poll → so_far.here ≡ true
   pub shown : patience_of p.cpu ≡ how.Poll → p.bdos.terminal.console.output ≡ Some []
   pub lately : p.turns < p.looked + 2000000
+  pub calm : so_far.bulk < 1048576
   pub held : HoldsFew (state_of p []).run
   pub none : p.ahead.items ≡ []
 

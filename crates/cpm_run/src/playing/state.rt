@@ -1,10 +1,10 @@
 //! The state of a session, and what changes it.
 
-ghost use Rattle.std.specs.Prelude.{◌≡◌, ◌≢◌, ◌≤◌, ◌<◌, ◌+◌, ◌^◌, ◌-◌, ◌++◌, [], ℕ, false, IfOk, List, MatchOption, None, OnErr, OnOk, Option, Some};
+ghost use Rattle.std.specs.Prelude.{◌≡◌, ◌≢◌, ◌≤◌, ◌<◌, ◌+◌, ◌^◌, ◌-◌, ◌++◌, [], ℕ, false, IfOk, List, MatchOption, None, OnErr, OnOk, Option, Some, length};
 ghost use Rattle.cpm_bdos.specs.System.{with_console};
 ghost use Rattle.cpm_console.specs.Dialog.{output_cleared, typed_in};
 ghost use Rattle.cpm_run.specs.Play.{Attends, IsEcho, PlayState, PlaysOn, arrived, first_state};
-ghost use Rattle.cpm_run.specs.Seat.{Seat};
+ghost use Rattle.cpm_console.specs.Seat.{Seat};
 ghost use Rattle.cpm_run.specs.Turns.{IsTurn, is_finished};
 ghost use Rattle.cpm_run.specs.Looks.{Attention, HoldsFew, MayLook, MayStep, TakesLine};
 ghost use Rattle.cpm_run.specs.Private.Playing.{AfterLook, AfterShowing, EchoGrows, HasShown, IsPut, IsQuiet, IsStill, IsTold, IsUnasked, MakesNoStep, OnlyShows, ShownOn, ShowsRest, Stands, StepsTo, Waits, WaitsOn, Watched, Went, state_of, taken};
@@ -12,10 +12,9 @@ ghost use Rattle.cpm_run.specs.Private.Playing.{AfterLook, AfterShowing, EchoGro
 use crate::arriving::{Arrival, PlayEnd};
 use crate::ending::Why;
 use crate::places::{BDOS, BIOS};
-use crate::station::{Came, Patience, Station, StationFault};
 use crate::turning::turn;
 use cpm_bdos::Bdos;
-use cpm_console::MemoryConsole;
+use cpm_console::{Came, MemoryConsole, Patience, Station, StationFault};
 use cpm_disk::Disk;
 use cpm_image::Sectors;
 use std::alloc::{AllocError, Global};
@@ -29,6 +28,10 @@ const SYSTEM: Watch = Watch {
 
 /// At most this number of bytes are put before they are shown.
 const MOST_HELD: usize = 4_096;
+
+/// Once this number of bytes are shown, the session looks at the keyboard before the next call of the system. One call may put 65,536
+/// bytes, which are 524,288 once tabs are expanded, so gigabytes may be shown before the number of steps makes a look due.
+const MOST_UNSEEN: u64 = 1_048_576;
 
 /// A session.
 #[derive(Drop)]
@@ -46,6 +49,8 @@ pub(crate) struct Playing<S: Sectors> {
     pub(crate) ended: bool,
     /// The number of steps when the keyboard was looked at last.
     pub(crate) looked: u64,
+    /// How many more bytes may be shown before the keyboard is looked at again.
+    pub(crate) allowance: u64,
 }
 
 /// The bytes that came after this number of steps.
@@ -76,6 +81,7 @@ impl<S: Sectors> Playing<S> {
         ensures ahead { result.ahead.items ≡ [] }
         ensures ended { result.ended ≡ false }
         ensures looked { result.looked ≡ 0 }
+        ensures allowance { result.allowance ≡ 1048576 }
     {
         let console = MemoryConsole::new(alloc, Vec::new(alloc));
         Playing {
@@ -87,6 +93,7 @@ impl<S: Sectors> Playing<S> {
             ahead: Vec::new(alloc),
             ended: false,
             looked: 0,
+            allowance: MOST_UNSEEN,
         }
     }
 
@@ -99,6 +106,7 @@ impl<S: Sectors> Playing<S> {
         ensures arrivals { self.new.arrivals.items ≡ self.old.arrivals.items }
         ensures ended { self.new.ended ≡ self.old.ended }
         ensures looked { self.new.looked ≡ self.old.looked }
+        ensures allowance { self.new.allowance ≡ self.old.allowance }
         ensures bdos { self.new.bdos ≡ self.old.bdos }
         ensures goes { (start : PlayState S) (shown : List ℕ) → PlaysOn S.sectors S.faults start (state_of self.old shown) → Went S.sectors S.faults result start (state_of self.new shown) }
         ensures looks { (start : PlayState S) (shown : List ℕ) (a : Attention) → Attends S.sectors S.faults start (state_of self.old shown) a → a.here ≡ false → self.old.turns + most ≤ a.last + 4000000
@@ -129,6 +137,7 @@ impl<S: Sectors> Playing<S> {
         ensures arrivals { self.new.arrivals.items ≡ self.old.arrivals.items }
         ensures ended { self.new.ended ≡ self.old.ended }
         ensures looked { self.new.looked ≡ self.old.looked }
+        ensures allowance { self.new.allowance ≡ self.old.allowance }
         ensures goes { (start : PlayState S) (shown : List ℕ) → PlaysOn S.sectors S.faults start (state_of self.old shown) → Went S.sectors S.faults result start (state_of self.new shown) }
         ensures looks { (start : PlayState S) (shown : List ℕ) (a : Attention) → Attends S.sectors S.faults start (state_of self.old shown) a → MayStep (state_of self.old []).run self.old.turns a
             → StepsTo S.sectors S.faults result start (state_of self.new shown) a }
@@ -138,9 +147,11 @@ impl<S: Sectors> Playing<S> {
         end
     }
 
-    /// Takes bytes that came. If memory runs out, none of them came.
+    /// Takes bytes that came. If memory runs out, none of them came. No bytes need no memory.
     pub(crate) fn take_in(&mut self, alloc: Global, bytes: &[u8]) -> Result<(), AllocError>
         ensures still { IsStill self.old self.new }
+        ensures allowance { self.new.allowance ≡ self.old.allowance }
+        ensures some { OnErr result (0 < length bytes.now) }
         ensures ahead { self.new.ahead.items ≡ self.old.ahead.items }
         ensures ended { self.new.ended ≡ self.old.ended }
         ensures output { self.new.bdos.terminal.console.output ≡ self.old.bdos.terminal.console.output }
@@ -150,6 +161,9 @@ impl<S: Sectors> Playing<S> {
         ensures arrivals { self.new.arrivals.items ≡ taken self.old.turns bytes.now result self.old.arrivals.items }
         ensures came { (start : PlayState S) (shown : List ℕ) → PlaysOn S.sectors S.faults start (state_of self.old shown) → PlaysOn S.sectors S.faults start (state_of self.new shown) }
     {
+        if bytes.is_empty() {
+            return Ok(());
+        }
         let known = self.arrivals.len();
         let list = arrived(alloc, self.turns, bytes)?;
         self.arrivals.extend_from_slice(&list)?;
@@ -173,6 +187,7 @@ impl<S: Sectors> Playing<S> {
         ensures ahead { self.new.ahead.items ≡ self.old.ahead.items }
         ensures output { self.new.bdos.terminal.console.output ≡ self.old.bdos.terminal.console.output }
         ensures looked { OnOk result (self.new.looked ≡ self.new.turns) }
+        ensures allowance { OnOk result (self.new.allowance ≡ 1048576) }
         ensures grows { TakesLine self.old.cpu → OnOk result (EchoGrows self.old self.new) }
         ensures waits { (limit : ℕ) (start : PlayState S) (before : Seat) → Waits S.sectors S.faults limit start before self.old (K.seat station.old) → IsEcho (state_of self.old []).run self.old.ahead.items
             → WaitsOn S.sectors S.faults limit result start before self.new (K.seat station.new) }
@@ -184,11 +199,13 @@ impl<S: Sectors> Playing<S> {
             Came::Bytes(count) => {
                 self.take_in(alloc, &buffer[..count.min(256)])?;
                 self.looked = self.turns;
+                self.allowance = MOST_UNSEEN;
                 // What the keyboard says last counts: it may give keys again after it said that none would come.
                 self.ended = false;
             }
             Came::End => {
                 self.looked = self.turns;
+                self.allowance = MOST_UNSEEN;
                 self.ended = true;
             }
             Came::Leave => return Err(PlayEnd::Left),
@@ -203,6 +220,7 @@ impl<S: Sectors> Playing<S> {
         ensures keys { IsUnasked (K.seat station.old) (K.seat station.new) }
         ensures cleared { OnOk result (self.new.bdos ≡ with_console (output_cleared self.old.bdos.terminal.console) self.old.bdos) }
         ensures events { ShowsRest result self.old (K.seat station.old) (K.seat station.new) }
+        ensures spent { OnOk result ((rest : List ℕ) → self.old.bdos.terminal.console.output ≡ Some (self.old.ahead.items ++ rest) → self.new.allowance ≡ self.old.allowance - length rest) }
         ensures all { OnOk result ((before : Seat) (shown : List ℕ) → HasShown before (K.seat station.old) shown self.old.ahead.items
             → (bytes : List ℕ) × (self.old.bdos.terminal.console.output ≡ Some bytes) × HasShown before (K.seat station.new) shown bytes) }
         ensures rest { OnOk result ((self.new.ahead.items ≡ []) × (self.new.bdos.terminal.console.output ≡ Some []) × ((start : PlayState S) (shown bytes : List ℕ) → self.old.bdos.terminal.console.output ≡ Some bytes → PlaysOn S.sectors S.faults start (state_of self.old shown) → PlaysOn S.sectors S.faults start (state_of self.new (shown ++ bytes)))) }
@@ -212,6 +230,7 @@ impl<S: Sectors> Playing<S> {
             return Err(StationFault);
         };
         station.show(rest)?;
+        self.allowance = self.allowance.saturating_sub(rest.len() as u64);
         self.ahead.clear();
         self.bdos.clear_output();
         Ok(())
@@ -223,6 +242,7 @@ impl<S: Sectors> Playing<S> {
         ensures arrivals { self.new.arrivals.items ≡ self.old.arrivals.items }
         ensures ended { self.new.ended ≡ self.old.ended }
         ensures keys { IsUnasked (K.seat station.old) (K.seat station.new) }
+        ensures less { self.new.allowance ≤ self.old.allowance }
         ensures looks { (start : PlayState S) (before : Seat) (a : Attention) → Watched S.sectors S.faults start before self.old (K.seat station.old) a → IsPut None self.old
             → ShownOn S.sectors S.faults result start before self.new (K.seat station.new) a }
         ensures told { (before : Seat) → IsQuiet before self.old (K.seat station.old) → IsTold result before self.new (K.seat station.new) }

@@ -1,27 +1,26 @@
 //! What a session does before a step that asks for input.
 
-ghost use Rattle.std.specs.Prelude.{◌≡◌, ◌≢◌, ◌<◌, ◌≤◌, ◌+◌, [], IfOk, List, OnOk, Option, Some, false, true, ℕ};
+ghost use Rattle.std.specs.Prelude.{◌≡◌, ◌≢◌, ◌<◌, ◌≤◌, ◌+◌, ◌⊎◌, [], IfOk, List, OnErr, OnOk, Option, Some, false, length, true, ℕ};
 ghost use Rattle.cpm_console.specs.Dialog.{dialog_of, put_by};
 ghost use Rattle.cpm_console.specs.Line.{NoInput, line_transcript, typed_line};
 ghost use Rattle.cpm_console.specs.Screen.{screen};
-ghost use Rattle.cpm_run.specs.Looks.{Attention, HoldsFew, IsLookDue, TakesLine, line_room, next_echo, patience_of};
+ghost use Rattle.cpm_run.specs.Looks.{Attention, HoldsFew, IsLookDue, MayHaveEcho, TakesLine, line_room, next_echo, patience_of};
 ghost use Rattle.cpm_run.specs.Play.{PlayState};
-ghost use Rattle.cpm_run.specs.Seat.{Seat};
-ghost use Rattle.cpm_run.specs.declared.station.Patience.TheVariants as how;
+ghost use Rattle.cpm_console.specs.Seat.{Seat};
+ghost use Rattle.cpm_console.specs.declared.station.Patience.TheVariants as how;
 ghost use Rattle.cpm_run.specs.Private.Playing.{AfterLook, Attended, BeginsEcho, Continues, IsBetween, IsStill, LooksOn, MakesNoStep, SoFar, Waits, WaitsOn, Watched, WatchedOn, state_of};
 
 use crate::arriving::PlayEnd;
 use crate::asking::{patience_of, takes_line};
 use crate::playing::state::{Playing, behind};
-use crate::station::{Patience, Station};
-use cpm_console::{ConsoleError, MemoryConsole, Terminal};
+use cpm_console::{ConsoleError, MemoryConsole, Patience, Station, Terminal};
 use cpm_image::Sectors;
 use std::alloc::{AllocError, Global};
 
 /// How often the keyboard is asked for a byte before a session gives up. At ten times a second that takes 13 years.
 const MOST_WAITS: u32 = u32::MAX;
 
-/// Once this number of steps follows the last look at the keyboard, `attend` looks whatever the next step is, so that a person can leave every
+/// Once the last look at the keyboard is this number of steps ago, `attend` looks whatever the next step is, so that a person can leave every
 /// program.
 const LONGEST_UNSEEN: u64 = 2_000_000;
 
@@ -32,12 +31,19 @@ struct Echo {
     is_whole: bool,
 }
 
-/// What function 10 puts for these bytes.
+/// What function 10 puts for these bytes. If none are typed into a line with room, it puts nothing yet, and that takes no memory.
 fn echo_of(alloc: Global, typed: &[u8], column: u16, room: u8) -> Result<Echo, AllocError>
     ensures whole { IfOk result (λ echo. echo.is_whole ≡ true → (line_transcript room (record { bytes = []; start = column; column = column }) typed.now).ending ≢ NoInput) }
     ensures part { IfOk result (λ echo. (line_transcript room (record { bytes = []; start = column; column = column }) typed.now).ending ≢ NoInput → echo.is_whole ≡ true) }
     ensures bytes { IfOk result (λ echo. echo.bytes.items ≡ put_by (line_transcript room (record { bytes = []; start = column; column = column }) typed.now).events) }
+    ensures due { OnErr result ((0 < length typed.now) ⊎ (room ≡ 0)) }
 {
+    if room > 0 && typed.is_empty() {
+        return Ok(Echo {
+            bytes: Vec::new(alloc),
+            is_whole: false,
+        });
+    }
     let mut input = Vec::with_capacity(alloc, typed.len())?;
     input.extend_from_slice(typed)?;
     let mut terminal = Terminal {
@@ -92,6 +98,7 @@ impl<S: Sectors> Playing<S> {
         ensures whole { IfOk result (λ echo. echo.is_whole ≡ true → (typed_line (line_room (state_of self.now []).run) (screen (λ d. d) self.now.bdos.terminal)).ending ≢ NoInput) }
         ensures part { IfOk result (λ echo. (typed_line (line_room (state_of self.now []).run) (screen (λ d. d) self.now.bdos.terminal)).ending ≢ NoInput → echo.is_whole ≡ true) }
         ensures bytes { IfOk result (λ echo. echo.bytes.items ≡ next_echo (state_of self.now []).run) }
+        ensures due { OnErr result (MayHaveEcho (state_of self.now []).run) }
     {
         let room = self.memory.get(self.cpu.main.de());
         echo_of(alloc, self.bdos.console().typed(), self.bdos.column(), room)
@@ -114,9 +121,15 @@ impl<S: Sectors> Playing<S> {
         let Some(more) = behind(&self.ahead, &echo.bytes) else {
             return Err(PlayEnd::Failed);
         };
+        if more.is_empty() {
+            return Ok(echo.is_whole);
+        }
         self.ahead.extend_from_slice(more)?;
         match station.show(more) {
-            Ok(()) => Ok(echo.is_whole),
+            Ok(()) => {
+                self.allowance = self.allowance.saturating_sub(more.len() as u64);
+                Ok(echo.is_whole)
+            }
             Err(_) => Err(PlayEnd::Failed),
         }
     }
@@ -169,6 +182,7 @@ impl<S: Sectors> Playing<S> {
         requires quick { patience ≢ how.Wait }
         ensures still { MakesNoStep self.old self.new }
         ensures looked { OnOk result (self.new.looked ≡ self.new.turns) }
+        ensures allowance { OnOk result (self.new.allowance ≡ 1048576) }
         ensures output { OnOk result (self.new.bdos.terminal.console.output ≡ Some []) }
         ensures ahead { OnOk result (self.new.ahead.items ≡ []) }
         ensures looks { (start : PlayState S) (before : Seat) (a : Attention) → Watched S.sectors S.faults start before self.old (K.seat station.old) a → self.old.ahead.items ≡ [] → IsLookDue patience (state_of self.old []).run self.old.turns a
@@ -179,16 +193,17 @@ impl<S: Sectors> Playing<S> {
         self.listen(alloc, station, patience)
     }
 
-    /// Whether the last look at the keyboard is so long ago that the next step has to wait for another.
+    /// Whether the next step has to wait for another look at the keyboard: 2,000,000 steps were made since the last one, or 1,048,576 bytes shown.
     fn is_look_overdue(&self) -> bool
-        ensures yes { result ≡ true → self.now.looked + 2000000 ≤ self.now.turns }
+        ensures yes { result ≡ true → (self.now.looked + 2000000 ≤ self.now.turns) ⊎ (self.now.allowance ≡ 0) }
         ensures no { result ≡ false → self.now.turns < self.now.looked + 2000000 }
+        ensures allowed { result ≡ false → 0 < self.now.allowance }
     {
-        self.turns.saturating_sub(self.looked) >= LONGEST_UNSEEN
+        self.allowance == 0 || self.turns.saturating_sub(self.looked) >= LONGEST_UNSEEN
     }
 
-    /// Looks at the keyboard once if the next step takes what has come, and otherwise if nobody has looked for long. Even a step that waits may have
-    /// its input already, so without that a person could not leave a program that takes lines without room for a byte.
+    /// Looks at the keyboard once if the next step takes what has come, and otherwise if a look is overdue. This includes a step that waits,
+    /// since it may have its input already: a program that only takes lines without room for a byte never has to wait.
     fn look_in_time<K: Station>(
         &mut self,
         alloc: Global,

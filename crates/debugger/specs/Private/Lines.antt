@@ -1,7 +1,7 @@
 -- The lines that end in some bytes, and the beginning of the next.
 use Rattle.std.specs.Prelude.{◌≡◌, ◌∷◌, ◌++◌, ◌⊎◌, ℕ, Bool, false, true, List, [], Option}
 use Rattle.std.specs.Io.KnownBytes.{Consumes, IsAtEnd}
-use Rattle.streams.specs.Stream.{Stream}
+use Rattle.host.specs.Streams.Stream.{Stream}
 use Rattle.debugger.specs.Conversation.{BeginsLines, HasNoEnd, SessionState, TalksOn}
 use Rattle.state_text.specs.Labelled.{Known}
 

@@ -4,9 +4,9 @@ use Rattle.std.specs.List.{filter_map, slice_index_or}
 use Rattle.asm_names.specs.Lines.{Taken}
 use Rattle.asm_spell.specs.Line as line
 use Rattle.asm_spell.specs.Line.{Body, Line}
-use Rattle.asm_statements.specs.Program.Statement.{Statement}
-use Rattle.zmo_module.specs.Modules as object
-use Rattle.zmo_module.specs.Modules.{ModuleStatement}
+use Rattle.asm_module.specs.Program.Statement.{Statement}
+use Rattle.zmo_object.specs.Modules as object
+use Rattle.zmo_object.specs.Modules.{ModuleStatement}
 use Rattle.program_map.specs.declared.kind.Kind.{Kind}
 use Rattle.program_map.specs.Kinds.{kinds}
 

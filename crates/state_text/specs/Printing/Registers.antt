@@ -1,6 +1,6 @@
 -- How the registers are printed, and what the system calls have set.
 use Rattle.std.specs.Prelude.{ℕ, Bool, List, [], ◌∷◌, ◌++◌, codes, decimal, if◌then◌else◌}
-use Rattle.z80_cpu.specs.Types.{Flags}
+use Rattle.z80_cpu.specs.declared.alu.flags.Flags.{Flags}
 use Rattle.z80_cpu.specs.State.{af, bc, de, hl}
 use Rattle.z80_cpu.specs.declared.registers.Cpu.{Cpu}
 use Rattle.state_text.specs.Printing.Columns.{blanks, word_text}

@@ -1,15 +1,15 @@
 -- How the steps of printing end.
 use Rattle.std.specs.Prelude.{◌≡◌, ℕ, List, ◌++◌, Result, Ok, Err, codes, string_bytes}
-use Rattle.certificate.specs.declared.cert.Verdict.{Verdict}
-use Rattle.certificate.specs.Accepts.{Accepts}
+use Rattle.cert_check.specs.declared.cert.Verdict.{Verdict}
+use Rattle.cert_check.specs.Accepts.{Accepts}
 use Rattle.cert_check.specs.declared.fault.CheckFault.{CheckFault}
 use Rattle.cert_check.specs.declared.fault.CheckFault.TheVariants as check
-use Rattle.streams.specs.Stream.{Stream}
-use Rattle.streams.specs.Writing.{PrintsAll, PutsFront}
+use Rattle.host.specs.Streams.Stream.{Stream}
+use Rattle.host.specs.Streams.Writing.{PrintsAll, PutsFront}
 use Rattle.zlink.specs.declared.fault.LinkFault.TheVariants as link
 use Rattle.zlink.specs.declared.fault.BuildFault.TheVariants as build
-use Rattle.z80dev_finish.specs.declared.end.End.{End}
-use Rattle.z80dev_finish.specs.declared.end.End.TheVariants as end
+use Rattle.host.specs.declared.end.End.{End}
+use Rattle.host.specs.declared.end.End.TheVariants as end
 use Rattle.z80dev.specs.declared.fault.Fault.{Fault}
 use Rattle.z80dev.specs.declared.fault.Fault.TheVariants as fault
 use Rattle.z80dev.specs.CheckTexts.{check_text}

@@ -2,15 +2,15 @@
 
 ghost use Rattle.std.specs.Prelude.{◌≡◌, IfOk, IfSome, string_bytes};
 ghost use Rattle.std.proofs.Props.{props};
-ghost use Rattle.z80dev_finish.specs.Files.{IsLockWanted};
+ghost use Rattle.host.specs.Files.{IsLockWanted};
 
+use host::Unread;
 use std::alloc::Global;
 use std::fs::{self, File, Metadata, OpenOptions, TryLockError};
 use std::io::{self, ErrorKind};
 use std::os::unix::fs::MetadataExt;
 use std::thread::sleep;
 use std::time::Duration;
-use z80dev_finish::Unread;
 
 /// How often the lock is asked for before the command gives up. With the pauses in between, that takes a second.
 const ATTEMPTS: u32 = 100;

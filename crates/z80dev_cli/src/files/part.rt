@@ -1,18 +1,17 @@
 //! A file that is written beside the one whose place it is to take.
 
 ghost use Rattle.std.specs.Prelude.{◌≡◌, IfOk, OnOk, false, true, string_bytes};
-ghost use Rattle.z80dev_finish.specs.declared.files.Placed.TheVariants.{Done};
+ghost use Rattle.host.specs.declared.files.Placed.TheVariants.{Done};
 ghost use Rattle.z80dev_cli.specs.Host.{held_lock};
 
 use crate::files::lock::{HeldLock, Names, is_same};
 use arrayvec::ArrayString;
+use host::{Placed, WatchedSink, WriteFailed, put};
 use std::fmt::{self, Write};
 use std::fs::{self, File, Metadata, OpenOptions};
 use std::io::{self, ErrorKind};
 use std::os::unix::fs::{MetadataExt, OpenOptionsExt, fchown};
 use std::path::Path;
-use streams::{WatchedSink, WriteFailed, put};
-use z80dev_finish::Placed;
 
 /// How many parts may lie beside a file, left by commands that were killed or of commands that have not ended.
 const PARTS: u32 = 100;
@@ -48,7 +47,7 @@ pub(crate) struct Part {
 
 impl Part {
     ghost use Rattle.std.specs.Prelude.{◌≡◌, IfOk, OnOk, true};
-    ghost use Rattle.z80dev_finish.specs.declared.files.Placed.TheVariants.{Exists};
+    ghost use Rattle.host.specs.declared.files.Placed.TheVariants.{Exists};
 
     /// Waits until the bytes have reached the device.
     pub(crate) fn sync(&mut self) -> Result<(), WriteFailed>

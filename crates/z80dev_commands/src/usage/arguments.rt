@@ -3,7 +3,7 @@
 ghost use Rattle.std.specs.Prelude.{◌≡◌, IfOk, false, codes};
 ghost use Rattle.clap.specs.Words.{app_of, rule_of};
 ghost use Rattle.clap.specs.declared.builder.command.Command.TheViews.{out-Command};
-ghost use Rattle.z80dev_commands.specs.Commands.{base_rule, color_rule, define_rule, flag_rule, labels_rule, last_rule, list_rule, name_rule, option_rule, out_rule, path_rule, paths_rule, steps_rule, symbols_rule, user_rule, verbose_rule, with_file_rule, words_rule};
+ghost use Rattle.z80dev_commands.specs.Commands.{base_rule, color_rule, data_rule, define_rule, flag_rule, labels_rule, last_rule, list_rule, name_rule, option_rule, path_rule, paths_rule, steps_rule, symbols_rule, user_rule, verbose_rule, with_file_rule, words_rule};
 ghost use Rattle.z80dev_commands.specs.Private.{with_target, with_telling};
 
 use clap::builder::ValueParser;
@@ -41,35 +41,15 @@ pub(super) fn words<'a>(alloc: Global, name: &'a str, help: &'a str) -> Arg<'a>
     paths(alloc, name, help).required(false)
 }
 
-/// `--out BASE`, or `-o BASE`.
-fn out<'a>(alloc: Global, help: &'a str) -> Arg<'a>
-    ensures rule { rule_of result ≡ out_rule }
-    ensures local { result.global ≡ false }
-{
-    path(alloc, "BASE", help).long("out").short('o')
-}
-
-/// `--out BASE` of a command that writes files of this path.
-pub(super) fn out_given<'a>(alloc: Global) -> Arg<'a>
-    ensures rule { rule_of result ≡ out_rule }
-    ensures local { result.global ≡ false }
-{
-    out(
-        alloc,
-        "The path of the files to write, without their endings",
-    )
-}
-
-/// `--out BASE`, which need not be given.
-pub(super) fn base<'a>(alloc: Global) -> Arg<'a>
+/// `--out BASE`, or `-o BASE`, which need not be given.
+pub(super) fn base<'a>(alloc: Global, help: &'a str) -> Arg<'a>
     ensures rule { rule_of result ≡ base_rule }
     ensures local { result.global ≡ false }
 {
-    out(
-        alloc,
-        "The path of the files to write, without their endings [default: the first SRC without its ending]",
-    )
-    .required(false)
+    path(alloc, "BASE", help)
+        .long("out")
+        .short('o')
+        .required(false)
 }
 
 /// The option `--NAME ID`, which need not be given.
@@ -114,6 +94,19 @@ pub(super) fn with_file<'a>(alloc: Global) -> Arg<'a>
         "with",
         "FILE",
         "A file of definitions and macros that each source uses",
+    )
+}
+
+/// `--data DATA`.
+pub(super) fn data<'a>(alloc: Global) -> Arg<'a>
+    ensures rule { rule_of result ≡ data_rule }
+    ensures local { result.global ≡ false }
+{
+    list(
+        alloc,
+        "data",
+        "DATA",
+        "An address at which data begins, such as a text after a CALL",
     )
 }
 

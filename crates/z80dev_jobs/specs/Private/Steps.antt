@@ -1,14 +1,14 @@
 -- How the steps of the command end.
 use Rattle.std.specs.Prelude.{◌⊎◌, ℕ}
 use Rattle.clap.specs.declared.error.kind.ErrorKind.{ErrorKind}
-use Rattle.streams.specs.Stream.{Stream}
+use Rattle.host.specs.Streams.Stream.{Stream}
 use Rattle.z80dev_commands.specs.declared.job.Job.{Job}
 use Rattle.z80dev_commands.specs.declared.job.Job.TheVariants.{Disk}
-use Rattle.job_steps.specs.Reporting.{LacksMemory}
+use Rattle.host.specs.Reporting.{LacksMemory}
 use Rattle.z80dev_jobs.specs.Command.{RefusesWord, RefusesWords}
 use Rattle.z80dev_jobs.specs.declared.words.WordsFault.{WordsFault}
 use Rattle.z80dev_jobs.specs.declared.words.WordsFault.TheVariants as fault
-use Rattle.disk_jobs.specs.Disks.{HasUser}
+use Rattle.z80dev.specs.Disks.{HasUser}
 
 -- why the words are not known
 abbrev pub RefusesFault : WordsFault → Stream → Stream → ℕ → Type 0

@@ -1,11 +1,11 @@
 -- Sources as the code assembles them and shows them in warnings.
 use Rattle.std.specs.Prelude.{ℕ, Vec}
 use Rattle.std.specs.Global.{Global}
-use Rattle.zmo_module.specs.Modules.{module_of}
-use Rattle.zmo_module.specs.declared.module.Module as held
-use Rattle.jump_warnings.specs.Parts.{Member}
+use Rattle.zmo_object.specs.Modules.{module_of}
+use Rattle.zmo_object.specs.declared.module.Module as held
+use Rattle.source_warnings.specs.Jumps.Parts.{Member}
 use Rattle.zlink.specs.declared.program.joining.Links.{Links}
-use Rattle.shared_lines.specs.declared.front.SourceFile.{SourceFile}
+use Rattle.report_texts.specs.declared.front.SourceFile.{SourceFile}
 use Rattle.z80dev_make.specs.declared.warned.Shown as code
 use Rattle.z80dev_make.specs.Warned.{ShownSource}
 

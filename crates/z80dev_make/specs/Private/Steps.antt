@@ -2,9 +2,9 @@
 use Rattle.std.specs.Prelude.{ℕ, List, All, Result, Ok, Err, Vec, map}
 use Rattle.std.specs.List.{AllZip}
 use Rattle.std.specs.Global.{Global}
-use Rattle.zmo_module.specs.declared.module.Module as held
-use Rattle.zmo_module.specs.Modules.{module_of}
-use Rattle.zmo_module.specs.Rules.{IsModule}
+use Rattle.zmo_object.specs.declared.module.Module as held
+use Rattle.zmo_object.specs.Modules.{module_of}
+use Rattle.zmo_object.specs.Rules.{IsModule}
 use Rattle.zmo_object.specs.declared.fault.ObjectFault.{ObjectFault}
 use Rattle.zmo_object.specs.declared.fault.ObjectFault.TheVariants as object
 use Rattle.z80dev_make.specs.Link.{IsFirstFaultyObject, IsObject}

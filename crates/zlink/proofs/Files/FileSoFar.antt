@@ -8,10 +8,10 @@ use Rattle.std.proofs.lemmas.List.Elements.{All-from_get_or, All-weaker}
 use Rattle.std.proofs.lemmas.Option.{slice_get-map, slice_get_within}
 use Rattle.relax.specs.Choice.{Choice, IsNear, IsValid, bytes_before, place, size_of}
 use Rattle.relax.proofs.Places.{bytes-zero, bytes-next, bytes-le, size-there}
-use Rattle.zmo_module.specs.Holes.{IsHole}
-use Rattle.zmo_module.specs.Modules as object
-use Rattle.zmo_module.specs.Modules.{ModuleStatement}
-use Rattle.zmo_module.specs.Rules.{IsModuleStatement}
+use Rattle.zmo_object.specs.Holes.{IsHole}
+use Rattle.zmo_object.specs.Modules as object
+use Rattle.zmo_object.specs.Modules.{ModuleStatement}
+use Rattle.zmo_object.specs.Rules.{IsModuleStatement}
 use Rattle.zlink.specs.Program.Whole.{Placed}
 use Rattle.zlink.specs.File.Objects.{IsPlaced, ReadsObjects, placed_shape, sized_by}
 use Rattle.zlink.specs.File.Places.{ArePlaces}

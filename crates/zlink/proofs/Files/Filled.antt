@@ -1,13 +1,13 @@
 -- Fix-ups that are filled one after the other.
 use Rattle.std.proofs.Common.{◌≡◌, ℕ, zero, suc, ◌+◌, ◌<◌, ◌≤◌, List, [], ◌∷◌, ◌++◌, length, take, drop, get_or, refl, sym, ap, subst, ◌∙◌, arith, length-append, length-drop}
 use Rattle.std.proofs.lemmas.List.{length-take, take_more}
-use Rattle.asm_value.specs.Items.{value}
-use Rattle.asm_value.specs.Postfix.{tree}
-use Rattle.zmo_module.specs.declared.hole.Hole.{Hole}
+use Rattle.asm_parse.specs.Values.Items.{value}
+use Rattle.asm_parse.specs.Values.Postfix.{tree}
+use Rattle.zmo_object.specs.declared.module.hole.Hole.{Hole}
 use Rattle.asm_stmt.specs.Cells.{written}
-use Rattle.zmo_module.specs.Holes.{LieWithin, width_size}
-use Rattle.asm_statements.specs.Program.Linked.{fill_one, filled}
-use Rattle.asm_statements.proofs.Program.Holes.{length-written}
+use Rattle.zmo_object.specs.Holes.{LieWithin, width_size}
+use Rattle.asm_module.specs.Program.Linked.{fill_one, filled}
+use Rattle.asm_module.proofs.Program.Holes.{length-written}
 
 ends-within : (from count : ℕ) (hs : List Hole) (k : ℕ) (d : Hole) → LieWithin from count hs → k < length hs → (get_or hs k d).offset + width_size (get_or hs k d).width ≤ count
 ends-within from count [] k d within lt = absurd (omega arith)

@@ -7,9 +7,9 @@ use Rattle.std.proofs.lemmas.List.Concat.{length-flat_map}
 use Rattle.std.proofs.lemmas.List.Sums.{sum_by-take-le}
 use Rattle.std.proofs.lemmas.Grind.{flat_map-append}
 use Rattle.relax.specs.Choice.{Choice}
-use Rattle.zmo_module.specs.declared.module.Module as M
-use Rattle.zmo_module.specs.declared.statement.Statement as S
-use Rattle.zmo_module.specs.Modules.{Module, ModuleStatement, module_of, statement_of}
+use Rattle.zmo_object.specs.declared.module.Module as M
+use Rattle.zmo_object.specs.declared.module.statement.Statement as S
+use Rattle.zmo_object.specs.Modules.{Module, ModuleStatement, module_of, statement_of}
 use Rattle.zlink.specs.Program.Parts.{ModulePart, Publics, parts, parts_from, all_publics}
 use Rattle.zlink.specs.Program.Whole.{Placed, placed_statements, program, stands}
 use Rattle.zlink.specs.File.Objects.{grown, grown_at, is_marked}

@@ -1,8 +1,8 @@
 -- Bytes of statements that are written one after the other.
 use Rattle.std.proofs.Common.{◌≡◌, ℕ, ◌+◌, ◌<◌, List, [], ◌∷◌, ◌++◌, length, map, take, get_or, refl, sym, ap, subst, ◌∙◌, arith, append_assoc}
 use Rattle.std.proofs.lemmas.List.{append-nil, length-map, length-take-le}
-use Rattle.zmo_module.specs.declared.statement.Statement as S
-use Rattle.zmo_module.specs.Modules.{ModuleStatement, statement_of}
+use Rattle.zmo_object.specs.declared.module.statement.Statement as S
+use Rattle.zmo_object.specs.Modules.{ModuleStatement, statement_of}
 use Rattle.zlink.specs.Private.Pieces.{AreLaid}
 use Rattle.zlink.proofs.Files.Elements.{mapped-more}
 

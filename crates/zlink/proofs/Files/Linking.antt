@@ -14,10 +14,10 @@ use Rattle.common.specs.declared.limits.TheConstants.{MOST_STATEMENTS}
 use Rattle.relax.specs.declared.shape.Statement.{Statement as Sized}
 use Rattle.relax.specs.declared.shape.Statement.TheVariants as sized
 use Rattle.relax.specs.Choice.{IsShape, IsStatement as IsSized}
-use Rattle.zmo_module.specs.declared.module.Module as M
-use Rattle.zmo_module.specs.Modules as object
-use Rattle.zmo_module.specs.Modules.{Module, ModuleStatement, module_of, statement_of}
-use Rattle.zmo_module.specs.Rules.{IsModule, IsModuleStatement, refs_of}
+use Rattle.zmo_object.specs.declared.module.Module as M
+use Rattle.zmo_object.specs.Modules as object
+use Rattle.zmo_object.specs.Modules.{Module, ModuleStatement, module_of, statement_of}
+use Rattle.zmo_object.specs.Rules.{IsModule, IsModuleStatement, refs_of}
 use Rattle.zlink.specs.declared.program.joining.Links.{Links}
 use Rattle.zlink.specs.Program.Laws.{IsWithin, part_at, statement_count}
 use Rattle.zlink.specs.Program.Parts.{parts, parts_from, all_publics}

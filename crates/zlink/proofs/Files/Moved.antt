@@ -5,20 +5,20 @@ use Rattle.std.proofs.lemmas.List.Elements.{recursion_from_All}
 use Rattle.std.proofs.lemmas.Grind.{flat_map-append}
 use Rattle.asm_parse.specs.declared.item.Item.{Item}
 use Rattle.asm_parse.specs.Expression.{Expression, Leaf, Prefix, Infix, postfix}
-use Rattle.asm_value.specs.declared.atom.Atom.{Atom}
-use Rattle.asm_value.specs.Arithmetic.{binary, modulus, unary}
-use Rattle.asm_value.specs.Items.{refs, refs_in, value}
-use Rattle.asm_value.specs.Postfix.{tree}
-use Rattle.asm_value.proofs.Judgements.{spelled_tree}
+use Rattle.asm_parse.specs.declared.values.atom.Atom.{Atom}
+use Rattle.asm_parse.specs.Values.Arithmetic.{binary, modulus, unary}
+use Rattle.asm_parse.specs.Values.Items.{refs, refs_in, value}
+use Rattle.asm_parse.specs.Values.Postfix.{tree}
+use Rattle.asm_parse.proofs.Judgements.{spelled_tree}
 use Rattle.z80_instr.specs.Codes.{Codes}
 use Rattle.asm_stmt.specs.Cells.{written}
 use Rattle.asm_stmt.specs.Made.{long_jump}
-use Rattle.asm_statements.specs.Program.Linked.{IsLinkedPiece, fill_one, filled}
-use Rattle.zmo_module.specs.declared.hole.Hole.{Hole}
-use Rattle.zmo_module.specs.Holes.{IsHole}
-use Rattle.zmo_module.specs.Modules as object
-use Rattle.zmo_module.specs.Modules.{ModuleStatement}
-use Rattle.zmo_module.specs.Rules.{IsModuleStatement}
+use Rattle.asm_module.specs.Program.Linked.{IsLinkedPiece, fill_one, filled}
+use Rattle.zmo_object.specs.declared.module.hole.Hole.{Hole}
+use Rattle.zmo_object.specs.Holes.{IsHole}
+use Rattle.zmo_object.specs.Modules as object
+use Rattle.zmo_object.specs.Modules.{ModuleStatement}
+use Rattle.zmo_object.specs.Rules.{IsModuleStatement}
 
 -- what holds of the elements of two lists together holds of those of each
 parts : (P : ℕ → Type 0) (xs ys : List ℕ) → AllByRecursion P (xs ++ ys) → AllByRecursion P xs × AllByRecursion P ys

@@ -14,11 +14,11 @@ use Rattle.z80_instr.specs.Table.{canonical, other}
 use Rattle.relax.specs.declared.shape.Statement.{Statement as Sized}
 use Rattle.relax.specs.Choice.{Choice, bytes_before, place}
 use Rattle.relax.proofs.Places.{bytes-le, bytes-zero}
-use Rattle.zmo_module.specs.Modules as object
-use Rattle.zmo_module.specs.Modules.{ModuleStatement}
+use Rattle.zmo_object.specs.Modules as object
+use Rattle.zmo_object.specs.Modules.{ModuleStatement}
 use Rattle.asm_stmt.specs.Made.{long_jump}
-use Rattle.asm_statements.specs.Program.Linked.{IsLinkedPiece}
-use Rattle.asm_statements.specs.Program.Pieces.{IsShortJump, short_jump}
+use Rattle.asm_module.specs.Program.Linked.{IsLinkedPiece}
+use Rattle.asm_module.specs.Program.Pieces.{IsShortJump, short_jump}
 use Rattle.zlink.specs.Program.Whole.{Placed}
 use Rattle.zlink.specs.File.Objects.{IsPlaced, ReadsObjects, placed_shape}
 use Rattle.zlink.specs.File.Places.{ArePlaces}

@@ -4,8 +4,8 @@ use Rattle.std.specs.Prelude.{nat_le}
 use Rattle.std.specs.List.{slice_get, slice_range}
 use Rattle.std.proofs.lemmas.Bool.{cases_lt, leb-false, leb-true}
 use Rattle.std.proofs.lemmas.List.{get_or-append_right, get_or-drop, get_or-map, get_or-take, get_or_append_left, length-map, length-take-le}
-use Rattle.zmo_module.specs.Modules.{Module, ModuleStatement}
-use Rattle.zmo_module.specs.Rules.{IsModuleStatement, refs_of}
+use Rattle.zmo_object.specs.Modules.{Module, ModuleStatement}
+use Rattle.zmo_object.specs.Rules.{IsModuleStatement, refs_of}
 use Rattle.zlink.specs.declared.program.joining.Links.{Links}
 use Rattle.zlink.specs.Program.Laws.{IsWithin, part_at}
 use Rattle.zlink.specs.Program.Parts.{ModulePart, parts, all_publics}

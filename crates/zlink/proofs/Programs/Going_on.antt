@@ -6,9 +6,9 @@ use Rattle.std.specs.List.{All, AllZip}
 use Rattle.std.proofs.lemmas.List.{append-nil, at_drop_more, length-map, take_at}
 use Rattle.std.proofs.Math.ListN.{get_or-map}
 use Rattle.std.proofs.lemmas.Grind.{flat_map-append}
-use Rattle.zmo_module.specs.declared.module.Module as whole
-use Rattle.zmo_module.specs.Modules.{Module, module_of, statement_of}
-use Rattle.zmo_module.specs.Rules.{IsModule}
+use Rattle.zmo_object.specs.declared.module.Module as whole
+use Rattle.zmo_object.specs.Modules.{Module, module_of, statement_of}
+use Rattle.zmo_object.specs.Rules.{IsModule}
 use Rattle.zlink.specs.declared.program.fault.JoinFault.{JoinFault}
 use Rattle.zlink.specs.declared.program.joining.Links.{Links}
 use Rattle.zlink.specs.Program.Faults.{begins_late, first_of, fault_if, some_or_else}

@@ -5,7 +5,7 @@ use Rattle.std.specs.Option.{option_map}
 use Rattle.std.proofs.lemmas.List.{length-map}
 use Rattle.std.proofs.lemmas.List.Sums.{sum_by-cons}
 use Rattle.std.proofs.lemmas.Option.{same_Some, slice_get-map}
-use Rattle.zmo_module.specs.Modules.{Module, ModuleStatement}
+use Rattle.zmo_object.specs.Modules.{Module, ModuleStatement}
 use Rattle.zlink.specs.Program.Laws.{part_at, statement_count}
 use Rattle.zlink.specs.Program.Parts.{ModulePart, Publics, parts, parts_from, all_publics}
 use Rattle.zlink.specs.Program.Whole.{placed_statements, program, stands}

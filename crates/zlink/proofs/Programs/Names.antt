@@ -12,10 +12,10 @@ use Rattle.std.proofs.lemmas.List.Elements.{All-from_get_or, All-get_or, All-hea
 use Rattle.std.proofs.lemmas.List.Kept.{AllPairs-from_increasing}
 use Rattle.std.proofs.lemmas.Map.Keys.{apart_from_distinct}
 use Rattle.std.proofs.lemmas.Slice.Eq.{bytes_eq-Decides}
-use Rattle.zmo_module.specs.declared.module.Label as label
-use Rattle.zmo_module.specs.declared.module.Module as whole
-use Rattle.zmo_module.specs.Modules.{Module, label_of, module_of}
-use Rattle.zmo_module.specs.Rules.{IsModule, names_of}
+use Rattle.zmo_object.specs.declared.module.Label as label
+use Rattle.zmo_object.specs.declared.module.Module as whole
+use Rattle.zmo_object.specs.Modules.{Module, label_of, module_of}
+use Rattle.zmo_object.specs.Rules.{IsModule, names_of}
 use Rattle.zlink.specs.declared.program.fault.JoinFault.{JoinFault}
 use Rattle.zlink.specs.Program.Faults.{first_of, fault_if, some_or_else, unresolved}
 use Rattle.zlink.specs.Program.Parts.{ModulePart, Publics, public_found, public_labels, given_label, label_at}

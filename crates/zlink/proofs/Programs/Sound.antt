@@ -8,8 +8,8 @@ use Rattle.std.proofs.lemmas.Bool.{ltb-false, leb-true}
 use Rattle.std.proofs.lemmas.List.Elements.{All-append, All-cons, All-get_or, All-head, All-map, All-nil, All-tail, All-weaker}
 use Rattle.std.proofs.lemmas.Map.Entries.{All-lookup}
 use Rattle.common.specs.declared.limits.TheConstants.{MOST_STATEMENTS}
-use Rattle.zmo_module.specs.Modules.{Module}
-use Rattle.zmo_module.specs.Rules.{IsLabel, IsModule, IsModuleStatement, refs_of}
+use Rattle.zmo_object.specs.Modules.{Module}
+use Rattle.zmo_object.specs.Rules.{IsLabel, IsModule, IsModuleStatement, refs_of}
 use Rattle.zlink.specs.declared.program.fault.JoinFault.{JoinFault}
 use Rattle.zlink.specs.Program.Faults.{first_fault, fault_if, some_or_else}
 use Rattle.zlink.specs.Program.Laws.{IsWithin, statement_count}

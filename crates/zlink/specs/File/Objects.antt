@@ -4,9 +4,9 @@ use Rattle.std.specs.List.{enumerate_from, filter_map}
 use Rattle.relax.specs.declared.shape.Statement.{Statement as Sized}
 use Rattle.relax.specs.declared.shape.Statement.TheVariants as sized
 use Rattle.relax.specs.Choice.{Choice}
-use Rattle.asm_statements.specs.Program.Linked.{IsLinkedPiece}
-use Rattle.zmo_module.specs.Modules as object
-use Rattle.zmo_module.specs.Modules.{ModuleStatement}
+use Rattle.asm_module.specs.Program.Linked.{IsLinkedPiece}
+use Rattle.zmo_object.specs.Modules as object
+use Rattle.zmo_object.specs.Modules.{ModuleStatement}
 use Rattle.zlink.specs.Program.Whole.{Placed}
 use Rattle.zlink.specs.File.Reads.{ReadsBy}
 

@@ -1,6 +1,6 @@
 -- What the steps of `join` answer.
 use Rattle.std.specs.Prelude.{◌≡◌, ℕ, List, Option, Some, None, Result, Ok, Err, is_some, take}
-use Rattle.zmo_module.specs.Modules.{Module}
+use Rattle.zmo_object.specs.Modules.{Module}
 use Rattle.zlink.specs.declared.program.fault.JoinFault.{JoinFault}
 use Rattle.zlink.specs.Program.Faults.{first_of, fault_if, twice}
 use Rattle.zlink.specs.Program.Parts.{ModulePart, Publics, public_found, label_at, parts}

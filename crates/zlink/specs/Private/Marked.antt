@@ -2,7 +2,7 @@
 use Rattle.std.specs.Prelude.{ℕ, ◌&&◌, List, Option, Some, None, if◌then◌else◌}
 use Rattle.std.specs.List.{enumerate_from, filter_map}
 use Rattle.relax.specs.Choice.{Choice}
-use Rattle.zmo_module.specs.Modules.{ModuleStatement}
+use Rattle.zmo_object.specs.Modules.{ModuleStatement}
 use Rattle.zlink.specs.File.Objects.{is_marked}
 
 abbrev pub marked_at : Choice → ℕ × ModuleStatement → Option ℕ

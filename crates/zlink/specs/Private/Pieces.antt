@@ -1,10 +1,10 @@
 -- What is written for statements.
 use Rattle.std.specs.Prelude.{◌≡◌, ℕ, ◌+◌, ◌^◌, ◌<◌, Bool, false, List, [], ◌∷◌, ◌++◌, All, Some, length, slice_get, slice_index}
 use Rattle.relax.specs.Choice.{Choice, IsNear, size_of}
-use Rattle.asm_statements.specs.Program.Linked.{IsLinkedPiece}
-use Rattle.zmo_module.specs.Holes.{IsHole, LieWithin}
-use Rattle.zmo_module.specs.Modules as object
-use Rattle.zmo_module.specs.Modules.{ModuleStatement}
+use Rattle.asm_module.specs.Program.Linked.{IsLinkedPiece}
+use Rattle.zmo_object.specs.Holes.{IsHole, LieWithin}
+use Rattle.zmo_object.specs.Modules as object
+use Rattle.zmo_object.specs.Modules.{ModuleStatement}
 use Rattle.zlink.specs.File.Objects.{sized_by}
 
 -- `new` is `old` with bytes appended, and P holds of these bytes

@@ -1,8 +1,8 @@
 -- What the refs of one module stand for, by the links that `join` made.
 use Rattle.std.specs.Prelude.{ℕ, ◌+◌, ◌-◌, ◌<◌, ◌≤◌, List, ◌++◌, if◌then◌else◌, length, map, nat_le, slice_index, slice_range}
 use Rattle.common.specs.declared.limits.TheConstants.{MOST_BYTES}
-use Rattle.zmo_module.specs.Modules as object
-use Rattle.zmo_module.specs.Modules.{ModuleStatement}
+use Rattle.zmo_object.specs.Modules as object
+use Rattle.zmo_object.specs.Modules.{ModuleStatement}
 
 -- for refs up to `count`, a statement of the module or its end; for the refs after that, its externals
 abbrev pub stands_by : ℕ → ℕ → List ℕ → ℕ → ℕ

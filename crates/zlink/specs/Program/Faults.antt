@@ -3,7 +3,7 @@ use Rattle.std.specs.Prelude.{◌≡◌, ◌&&◌, Bool, not, ◌==◌, List, []
 use Rattle.std.specs.List.{enumerate_from, sum_by}
 use Rattle.std.specs.Option.{option_and_then}
 use Rattle.common.specs.declared.limits.TheConstants.{MOST_STATEMENTS}
-use Rattle.zmo_module.specs.Modules.{Module}
+use Rattle.zmo_object.specs.Modules.{Module}
 use Rattle.zlink.specs.declared.program.fault.JoinFault.{JoinFault}
 use Rattle.zlink.specs.declared.program.joining.Links.{Links}
 use Rattle.zlink.specs.Program.Parts.{ModulePart, Publics, public_found, given_label, label_at, parts, all_publics}

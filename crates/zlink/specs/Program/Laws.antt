@@ -1,8 +1,8 @@
 -- Words for the laws about the statements of the whole program.
 use Rattle.std.specs.Prelude.{◌≤◌, ◌<◌, ℕ, Bool, List, length, take}
 use Rattle.std.specs.List.{sum_by}
-use Rattle.zmo_module.specs.Modules.{Module}
-use Rattle.zmo_module.specs.Rules.{IsModuleStatement}
+use Rattle.zmo_object.specs.Modules.{Module}
+use Rattle.zmo_object.specs.Rules.{IsModuleStatement}
 use Rattle.zlink.specs.Program.Parts.{ModulePart}
 use Rattle.zlink.specs.Program.Whole.{Placed}
 

@@ -3,7 +3,7 @@ use Rattle.std.specs.Prelude.{ℕ, ◌+◌, List, [], ◌∷◌, Option, length,
 use Rattle.std.specs.List.{flat_map, slice_index_or}
 use Rattle.std.specs.Map.{lookup}
 use Rattle.std.specs.Str.{bytes_eq}
-use Rattle.zmo_module.specs.Modules.{Label, Module}
+use Rattle.zmo_object.specs.Modules.{Label, Module}
 
 -- A module among others: its number, and how many statements come before its own.
 pub record ModulePart : Type 0 where

@@ -2,7 +2,7 @@
 use Rattle.std.specs.Prelude.{◌≡◌, ℕ, ◌+◌, ◌-◌, List, [], if◌then◌else◌, length, map, nat_le}
 use Rattle.std.specs.List.{AllZip, flat_map, slice_index_or}
 use Rattle.std.specs.Option.{option_map_or}
-use Rattle.zmo_module.specs.Modules.{Module, ModuleStatement}
+use Rattle.zmo_object.specs.Modules.{Module, ModuleStatement}
 use Rattle.zlink.specs.declared.program.joining.Links.{Links}
 use Rattle.zlink.specs.Program.Parts.{ModulePart, Publics, public_found, parts, all_publics}
 

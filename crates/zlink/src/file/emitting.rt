@@ -2,8 +2,8 @@
 
 ghost use Rattle.std.specs.Prelude.{◌≡◌, ◌≤◌, ◌+◌, All, IfOk, None, OnOk, length, map, slice_index};
 ghost use Rattle.relax.specs.Choice.{IsValid, chosen};
-ghost use Rattle.zmo_module.specs.Modules.{module_of, statement_of};
-ghost use Rattle.zmo_module.specs.Rules.{IsModule};
+ghost use Rattle.zmo_object.specs.Modules.{module_of, statement_of};
+ghost use Rattle.zmo_object.specs.Rules.{IsModule};
 ghost use Rattle.zlink.specs.Program.Faults.{first_fault};
 ghost use Rattle.zlink.specs.Program.Whole.{AreLinks, program};
 ghost use Rattle.zlink.specs.File.Objects.{ReadsObjects, placed_shape};
@@ -16,7 +16,7 @@ use crate::laws::{laid_out, within};
 use crate::program::Links;
 use common::FIRST_PLACE;
 use std::alloc::{AllocError, Global};
-use zmo_module::{Module, Statement};
+use zmo_object::{Module, Statement};
 
 /// Writes the statements of a module. The first of them has the number `first` in the whole program.
 fn put_statements(

@@ -3,8 +3,8 @@
 ghost use Rattle.std.specs.Prelude.{◌≡◌, ◌&&◌, ◌≤◌, ◌<◌, ◌+◌, ◌++◌, ◌^◌, All, IfOk, None, OnOk, length, map, vec_len};
 ghost use Rattle.common.specs.declared.limits.TheConstants.{MOST_STATEMENTS};
 ghost use Rattle.relax.specs.Choice.{chosen};
-ghost use Rattle.zmo_module.specs.Modules.{module_of, statement_of};
-ghost use Rattle.zmo_module.specs.Rules.{IsModule};
+ghost use Rattle.zmo_object.specs.Modules.{module_of, statement_of};
+ghost use Rattle.zmo_object.specs.Rules.{IsModule};
 ghost use Rattle.zlink.specs.Program.Faults.{first_fault};
 ghost use Rattle.zlink.specs.Program.Whole.{AreLinks, program};
 ghost use Rattle.zlink.specs.File.Objects.{grown, is_marked, placed_shape, sized_by};
@@ -18,30 +18,30 @@ use crate::program::Links;
 use common::FIRST_PLACE;
 use relax::{Shape, Statement};
 use std::alloc::{AllocError, Global};
-use zmo_module::Module;
+use zmo_object::Module;
 
 /// Answers the size and target of a statement, in a module of `count` statements.
-fn sized(statement: &zmo_module::Statement, count: usize, links: &Links) -> Statement
+fn sized(statement: &zmo_object::Statement, count: usize, links: &Links) -> Statement
     requires sizable { IsSizable (count + 1 + vec_len links.now.externals) (statement_of statement.now) }
     requires room { links.now.base + count < 2 ^ 32 }
     ensures { result ≡ sized_by (stands_by count links.now.base links.now.externals.items) (statement_of statement.now) }
 {
     match statement {
-        zmo_module::Statement::Bytes { bytes, .. } => Statement::Fixed(bytes.len() as u16),
-        zmo_module::Statement::Jump { target, .. } => {
+        zmo_object::Statement::Bytes { bytes, .. } => Statement::Fixed(bytes.len() as u16),
+        zmo_object::Statement::Jump { target, .. } => {
             Statement::Jump(stands(count, links, *target))
         }
-        zmo_module::Statement::Short { target, .. } => {
+        zmo_object::Statement::Short { target, .. } => {
             Statement::Short(stands(count, links, *target))
         }
-        zmo_module::Statement::Space { size, .. } => Statement::Fixed(*size),
+        zmo_object::Statement::Space { size, .. } => Statement::Fixed(*size),
     }
 }
 
 /// Appends the sizes and targets of the statements of a module.
 fn put_sizes(
     sizes: &mut Vec<Statement>,
-    statements: &[zmo_module::Statement],
+    statements: &[zmo_object::Statement],
     links: &Links,
 ) -> Result<(), AllocError>
     requires sizable { All (IsSizable (length statements.now + 1 + vec_len links.now.externals)) (map statement_of statements.now) }
@@ -93,10 +93,10 @@ pub fn places_of(
 }
 
 /// Whether the statement is a jump that was written as `JR` and is long.
-fn is_grown(statement: &zmo_module::Statement, long: bool) -> bool
+fn is_grown(statement: &zmo_object::Statement, long: bool) -> bool
     ensures { result ≡ (is_marked (statement_of statement.now) && long) }
 {
-    long && matches!(statement, zmo_module::Statement::Jump { marked: true, .. })
+    long && matches!(statement, zmo_object::Statement::Jump { marked: true, .. })
 }
 
 /// Converts a number to 32 bits. Memory cannot hold as many statements as would need more.
@@ -109,7 +109,7 @@ fn number(k: usize) -> Result<u32, AllocError>
 /// Appends the numbers of a module's jumps that were written as `JR` and are long.
 fn put_grown(
     numbers: &mut Vec<u32>,
-    statements: &[zmo_module::Statement],
+    statements: &[zmo_object::Statement],
     first: usize,
     long: &[bool],
 ) -> Result<(), AllocError>

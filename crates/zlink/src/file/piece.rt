@@ -7,18 +7,17 @@ ghost use Rattle.z80_instr.specs.Codes.{Codes};
 ghost use Rattle.z80_instr.specs.Table.{canonical};
 ghost use Rattle.asm_stmt.specs.Cells.{written};
 ghost use Rattle.asm_stmt.specs.Made.{long_jump};
-ghost use Rattle.asm_statements.specs.Program.Linked.{filled};
-ghost use Rattle.asm_statements.specs.Program.Pieces.{IsShortJump, short_jump};
-ghost use Rattle.zmo_module.specs.Holes.{IsHole, LieWithin, width_size};
-ghost use Rattle.zmo_module.specs.Modules.{statement_of};
+ghost use Rattle.asm_module.specs.Program.Linked.{filled};
+ghost use Rattle.asm_module.specs.Program.Pieces.{IsShortJump, short_jump};
+ghost use Rattle.zmo_object.specs.Holes.{IsHole, LieWithin, width_size};
+ghost use Rattle.zmo_object.specs.Modules.{statement_of};
 ghost use Rattle.zlink.specs.Private.Pieces.{Appends, IsReady, IsSizedPiece};
 
+use asm_parse::value;
 use asm_stmt::long_jump;
-use asm_value::value;
 use std::alloc::AllocError;
-use z80_encode::encode;
-use z80_instr::{Branch, Instr, ShortCond};
-use zmo_module::{Hole, Statement, Width};
+use z80_instr::{Branch, Instr, ShortCond, encode};
+use zmo_object::{Hole, Statement, Width};
 
 /// Answers the JR or DJNZ with this displacement.
 fn short_jump(branch: Branch, displacement: i8) -> Instr

@@ -3,8 +3,8 @@
 ghost use Rattle.std.specs.Prelude.{◌≡◌, ◌≤◌, ◌+◌, ℕ, All, List, None, Some, length, slice_get};
 ghost use Rattle.std.specs.Option.{option_map};
 ghost use Rattle.common.specs.declared.limits.TheConstants.{MOST_STATEMENTS};
-ghost use Rattle.zmo_module.specs.Modules.{Module, ModuleStatement};
-ghost use Rattle.zmo_module.specs.Rules.{IsModule};
+ghost use Rattle.zmo_object.specs.Modules.{Module, ModuleStatement};
+ghost use Rattle.zmo_object.specs.Rules.{IsModule};
 ghost use Rattle.zlink.specs.Program.Faults.{first_fault};
 ghost use Rattle.zlink.specs.Program.Laws.{IsWithin, part_at, statement_count};
 ghost use Rattle.zlink.specs.Program.Parts.{ModulePart, parts, all_publics};

@@ -2,8 +2,8 @@
 
 ghost use Rattle.std.specs.Prelude.{◌≡◌, ◌≤◌, All, map};
 ghost use Rattle.common.specs.declared.limits.TheConstants.{MOST_STATEMENTS};
-ghost use Rattle.zmo_module.specs.Modules.{module_of};
-ghost use Rattle.zmo_module.specs.Rules.{IsModule};
+ghost use Rattle.zmo_object.specs.Modules.{module_of};
+ghost use Rattle.zmo_object.specs.Rules.{IsModule};
 ghost use Rattle.zlink.specs.Program.Faults.{begins_late, enters_late, first_of, too_many};
 ghost use Rattle.zlink.specs.Program.Laws.{statement_count};
 ghost use Rattle.zlink.specs.Program.Parts.{parts};
@@ -11,7 +11,7 @@ ghost use Rattle.zlink.specs.Private.Joining.{part, refused};
 
 use crate::program::fault::JoinFault;
 use common::MOST_STATEMENTS;
-use zmo_module::Module;
+use zmo_object::Module;
 
 /// Refuses more statements than a program may have.
 pub(crate) fn check_count(modules: &[Module]) -> Result<(), JoinFault>

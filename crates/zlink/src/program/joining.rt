@@ -4,8 +4,8 @@ ghost use Rattle.std.specs.Prelude.{◌≤◌, All, map};
 ghost use Rattle.std.specs.List.{AllZip};
 ghost use Rattle.std.specs.Result.{result_map_both};
 ghost use Rattle.common.specs.declared.limits.TheConstants.{MOST_STATEMENTS};
-ghost use Rattle.zmo_module.specs.Modules.{module_of};
-ghost use Rattle.zmo_module.specs.Rules.{IsModule};
+ghost use Rattle.zmo_object.specs.Modules.{module_of};
+ghost use Rattle.zmo_object.specs.Rules.{IsModule};
 ghost use Rattle.zlink.specs.Program.Faults.{IsJoined, first_of, unresolved};
 ghost use Rattle.zlink.specs.Program.Laws.{statement_count};
 ghost use Rattle.zlink.specs.Program.Parts.{parts};
@@ -16,7 +16,7 @@ use crate::program::checks::{check_begins, check_count, check_entries};
 use crate::program::fault::JoinFault;
 use crate::program::publics::PublicNames;
 use std::alloc::Global;
-use zmo_module::Module;
+use zmo_object::Module;
 
 /// The links of a module to the whole program.
 #[derive(Debug, Drop)]

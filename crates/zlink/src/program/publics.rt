@@ -2,8 +2,8 @@
 
 ghost use Rattle.std.specs.Prelude.{◌≡◌, ◌≤◌, ◌++◌, ◌∷◌, [], All, IfOk, None, OnOk, is_some, map, not};
 ghost use Rattle.common.specs.declared.limits.TheConstants.{MOST_STATEMENTS};
-ghost use Rattle.zmo_module.specs.Modules.{module_of};
-ghost use Rattle.zmo_module.specs.Rules.{IsModule};
+ghost use Rattle.zmo_object.specs.Modules.{module_of};
+ghost use Rattle.zmo_object.specs.Rules.{IsModule};
 ghost use Rattle.zlink.specs.Program.Faults.{first_of};
 ghost use Rattle.zlink.specs.Program.Laws.{statement_count};
 ghost use Rattle.zlink.specs.Program.Parts.{public_found, public_labels, parts, all_publics};
@@ -14,7 +14,7 @@ use common::{KeyMixer, NameKey};
 use indexmap::IndexMap;
 use std::alloc::{AllocError, Global};
 use std::marker::Model;
-use zmo_module::Module;
+use zmo_object::Module;
 
 /// Public names, each with the number of a statement of the whole program.
 #[derive(Drop)]

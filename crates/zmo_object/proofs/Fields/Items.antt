@@ -4,10 +4,10 @@ use Rattle.std.specs.Option.{option_map, MatchOption}
 use Rattle.std.proofs.lemmas.List.{append-nil}
 use Rattle.std.proofs.lemmas.Bool.{cases_Bool}
 use Rattle.asm_parse.specs.declared.item.Item.{Item}
-use Rattle.asm_value.specs.declared.atom.Atom.{Atom}
-use Rattle.asm_value.specs.Items.{IsExpr}
-use Rattle.asm_value.specs.Private.Steps.{is_expr}
-use Rattle.asm_value.proofs.Judgements.{taken, refused}
+use Rattle.asm_parse.specs.declared.values.atom.Atom.{Atom}
+use Rattle.asm_parse.specs.Values.Items.{IsExpr}
+use Rattle.asm_parse.specs.Private.Steps.{is_expr}
+use Rattle.asm_parse.proofs.Judgements.{taken, refused}
 use Rattle.zmo_object.specs.Fields.Postfix.{expr_of, item_at, items_within, whole}
 
 abbrev pub with_front : List (Item Atom) → Option (List (Item Atom)) → Option (List (Item Atom))

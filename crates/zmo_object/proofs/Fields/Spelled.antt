@@ -6,11 +6,11 @@ use Rattle.std.proofs.lemmas.List.Elements.{All-head, All-tail}
 use Rattle.asm_parse.specs.declared.item.Item.{Item}
 use Rattle.asm_parse.specs.declared.operator.Binary.{Binary}
 use Rattle.asm_parse.specs.declared.operator.Unary.{Unary}
-use Rattle.asm_value.specs.declared.atom.Atom.{Atom}
-use Rattle.asm_value.specs.declared.expr.TheConstants.{MOST_ITEMS}
-use Rattle.asm_value.specs.Items.{IsExpr}
-use Rattle.asm_value.specs.Private.Steps.{is_expr}
-use Rattle.asm_value.proofs.Judgements.{taken, refused}
+use Rattle.asm_parse.specs.declared.values.atom.Atom.{Atom}
+use Rattle.asm_parse.specs.declared.values.expr.TheConstants.{MOST_ITEMS}
+use Rattle.asm_parse.specs.Values.Items.{IsExpr}
+use Rattle.asm_parse.specs.Private.Steps.{is_expr}
+use Rattle.asm_parse.proofs.Judgements.{taken, refused}
 use Rattle.zmo_object.specs.declared.operator.TheConstants.{BINARIES, UNARIES}
 use Rattle.zmo_object.specs.Fields.Texts.{binary_code, expr_text, item_text, unary_code, word_bytes}
 use Rattle.zmo_object.specs.Fields.Field.{IsBytes}

@@ -2,9 +2,9 @@
 use Rattle.std.specs.Prelude.{ℕ, zero, suc, ◌-◌, ◌+◌, ◌*◌, ◌==◌, if◌then◌else◌, nat_lt, List, [], ◌∷◌, Option, Some, None, slice_get}
 use Rattle.std.specs.Option.{option_map, option_and_then}
 use Rattle.asm_parse.specs.declared.item.Item.{Item}
-use Rattle.asm_value.specs.declared.atom.Atom.{Atom}
-use Rattle.asm_value.specs.declared.expr.TheConstants.{MOST_ITEMS}
-use Rattle.asm_value.specs.Private.Steps.{is_expr}
+use Rattle.asm_parse.specs.declared.values.atom.Atom.{Atom}
+use Rattle.asm_parse.specs.declared.values.expr.TheConstants.{MOST_ITEMS}
+use Rattle.asm_parse.specs.Private.Steps.{is_expr}
 use Rattle.zmo_object.specs.declared.operator.TheConstants.{BINARIES, UNARIES}
 
 -- the operator that has this code

@@ -4,7 +4,7 @@ use Rattle.std.specs.List.{flat_map}
 use Rattle.asm_parse.specs.declared.item.Item.{Item}
 use Rattle.asm_parse.specs.declared.operator.Binary.{Binary}
 use Rattle.asm_parse.specs.declared.operator.Unary.{Unary}
-use Rattle.asm_value.specs.declared.atom.Atom.{Atom}
+use Rattle.asm_parse.specs.declared.values.atom.Atom.{Atom}
 
 -- a number as two bytes, the low one first
 abbrev pub word_bytes : ℕ → List ℕ

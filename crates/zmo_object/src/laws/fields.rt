@@ -3,8 +3,8 @@
 ghost use Rattle.std.specs.Prelude.{◌≡◌, ℕ, List, Some};
 ghost use Rattle.std.specs.Option.{IfSome};
 ghost use Rattle.asm_parse.specs.declared.item.Item.{Item};
-ghost use Rattle.asm_value.specs.declared.atom.Atom.{Atom};
-ghost use Rattle.asm_value.specs.Items.{IsExpr};
+ghost use Rattle.asm_parse.specs.declared.values.atom.Atom.{Atom};
+ghost use Rattle.asm_parse.specs.Values.Items.{IsExpr};
 ghost use Rattle.zmo_object.specs.Fields.Field.{IsBytes};
 ghost use Rattle.zmo_object.specs.Fields.Postfix.{expr_of};
 ghost use Rattle.zmo_object.specs.Fields.Texts.{expr_text};

@@ -1,8 +1,8 @@
 //! Laws of whole object files. A law is a function that does nothing and whose clause is a theorem.
 
 ghost use Rattle.std.specs.Prelude.{◌≡◌, ℕ, List, Ok, IfOk};
-ghost use Rattle.zmo_module.specs.Modules.{Module};
-ghost use Rattle.zmo_module.specs.Rules.{IsModule};
+ghost use Rattle.zmo_object.specs.Modules.{Module};
+ghost use Rattle.zmo_object.specs.Rules.{IsModule};
 ghost use Rattle.zmo_object.specs.Fields.Field.{IsBytes};
 ghost use Rattle.zmo_object.specs.Texts.{module_text};
 ghost use Rattle.zmo_object.specs.Reading.{read_of};

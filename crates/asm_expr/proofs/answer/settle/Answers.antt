@@ -1,6 +1,6 @@
 use Rattle.std.proofs.Common.{Ok, sym, ap, ◌∙◌}
 use Rattle.asm_expr.specs.declared.answer.Settled.{Settled}
-use Rattle.asm_value.specs.Postfix.{source}
+use Rattle.asm_parse.specs.Values.Postfix.{source}
 use Rattle.asm_expr.proofs.OneTerm.{alone_settled}
 use Rattle.asm_expr.proofs.Worths.{worth_of_settled}
 use Rattle.asm_expr.proofs.answer.settle.Goals as goal

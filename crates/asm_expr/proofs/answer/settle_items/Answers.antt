@@ -1,8 +1,8 @@
 use Rattle.std.proofs.Common.{◌≡◌, ◌≤◌, None, length, sym, subst, ap, ◌∙◌, arith, inl}
 use Rattle.std.proofs.lemmas.Result.{err_from_is_err_and, IfOk-from_err}
 use Rattle.asm_parse.specs.Expression.{postfix}
-use Rattle.asm_value.specs.Postfix.{source}
-use Rattle.asm_value.specs.Kept.{kept}
+use Rattle.asm_parse.specs.Values.Postfix.{source}
+use Rattle.asm_parse.specs.Values.Kept.{kept}
 use Rattle.asm_expr.specs.Settling.{IsWorth, items_known, reduced, replaced, worth_unknown}
 use Rattle.asm_expr.specs.Private.Folding.{unknown_at_end}
 use Rattle.asm_expr.proofs.Answers.{items_lost, refused, settled_unknown, unknown_end, unknown_worth, worth_of_known}

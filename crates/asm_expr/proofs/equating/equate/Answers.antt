@@ -1,7 +1,7 @@
 use Rattle.std.proofs.Common.{Ok, sym, subst, arith}
 use Rattle.asm_expr.specs.Types.{Meaning}
 use Rattle.asm_expr.specs.Names.{IsCounted}
-use Rattle.asm_value.specs.Postfix.{source}
+use Rattle.asm_parse.specs.Values.Postfix.{source}
 use Rattle.asm_expr.proofs.Answers.{is_settled}
 use Rattle.asm_expr.proofs.Guards.{small}
 use Rattle.asm_expr.proofs.Offsets.{no_fault}

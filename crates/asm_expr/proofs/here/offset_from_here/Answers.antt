@@ -4,7 +4,7 @@ use Rattle.std.proofs.lemmas.Bool.{false≢true}
 use Rattle.asm_expr.specs.Private.Heads.{IsNotFromHere, numbered}
 use Rattle.std.proofs.lemmas.Result.{err_from_is_err_and}
 use Rattle.asm_parse.specs.Source.{source_item}
-use Rattle.asm_value.specs.Postfix.{source}
+use Rattle.asm_parse.specs.Values.Postfix.{source}
 use Rattle.asm_expr.specs.Settling.{is_constant_item}
 use Rattle.asm_expr.specs.Types.{Settled}
 use Rattle.asm_expr.proofs.Answers.{is_settled}

@@ -3,9 +3,9 @@ use Rattle.std.proofs.lemmas.List.{length-map}
 use Rattle.std.proofs.lemmas.Result.{err_from_is_err_and}
 use Rattle.asm_expr.specs.Types.{Item}
 use Rattle.asm_parse.specs.Expression.{postfix}
-use Rattle.asm_value.specs.Private.Steps.{arity}
+use Rattle.asm_parse.specs.Private.Steps.{arity}
 use Rattle.asm_parse.specs.Source.{Operand, source_item}
-use Rattle.asm_value.specs.Postfix.{source}
+use Rattle.asm_parse.specs.Values.Postfix.{source}
 use Rattle.asm_expr.specs.Settling.{is_known}
 use Rattle.asm_expr.specs.Private.Folding.{Folds, fold_all, items_for, item_size}
 use Rattle.asm_expr.proofs.Steps.{Settles, settles_start, settles_arity, settles_large, settles_next, settles_refused, settles_end, source_whole, run_source, read_at}

@@ -1,4 +1,4 @@
-use Rattle.asm_value.proofs.Judgements.{spelled_tree}
+use Rattle.asm_parse.proofs.Judgements.{spelled_tree}
 use Rattle.asm_expr.proofs.reduction.take_gathered.Goals as goal
 
 pub returns-clause-whole : goal.returns-clause-whole

@@ -2,8 +2,8 @@ use Rattle.std.proofs.Common.{◌≡◌, ◌<◌, Err, length, map, get_or, sym,
 use Rattle.std.proofs.lemmas.List.{length-map}
 use Rattle.std.proofs.lemmas.Result.{err_from_is_err_and}
 use Rattle.asm_expr.specs.Types.{Item, Atom}
-use Rattle.asm_value.specs.Private.Steps.{arity}
-use Rattle.asm_value.specs.Items.{IsExpr}
+use Rattle.asm_parse.specs.Private.Steps.{arity}
+use Rattle.asm_parse.specs.Values.Items.{IsExpr}
 use Rattle.asm_expr.specs.Settling.{known_item}
 use Rattle.asm_expr.specs.Private.Folding.{Folds, fold_one}
 use Rattle.std.proofs.Math.ListN.{get_or-map}

@@ -1,7 +1,7 @@
 use Rattle.std.proofs.Common.{◌≡◌, ◌≤◌, ◌+◌, List, map, length}
 use Rattle.asm_expr.specs.declared.part.Part.{Part}
 use Rattle.asm_parse.specs.Expression.{Expression}
-use Rattle.asm_value.specs.Postfix.{spread}
+use Rattle.asm_parse.specs.Values.Postfix.{spread}
 use Rattle.asm_expr.specs.Settling.{known_item}
 use Rattle.asm_expr.proofs.Steps.{Folded, Room}
 use Rattle.asm_expr.proofs.reduction.take_items.Given as goal

@@ -1,6 +1,6 @@
 use Rattle.std.proofs.Common.{◌≡◌, map, sym, ap, subst, ◌∙◌}
 use Rattle.asm_parse.specs.Expression.{postfix}
-use Rattle.asm_value.specs.Postfix.{tree}
+use Rattle.asm_parse.specs.Values.Postfix.{tree}
 use Rattle.asm_expr.specs.Settling.{known_item, standing}
 use Rattle.asm_expr.specs.Private.Folding.{Folds, fold_all}
 use Rattle.asm_expr.proofs.Known.{known-postfix}

@@ -1,7 +1,7 @@
 use Rattle.std.proofs.Common.{sym, ap, ◌∙◌}
 use Rattle.std.specs.List.{flat_map}
 use Rattle.std.specs.Option.{option_map}
-use Rattle.asm_value.specs.Kept.{items_in}
+use Rattle.asm_parse.specs.Values.Kept.{items_in}
 use Rattle.asm_expr.proofs.Knowing.{next_known, next_lost, one_more_piece}
 use Rattle.asm_expr.proofs.sharing.pieces_of.Goals as goal
 

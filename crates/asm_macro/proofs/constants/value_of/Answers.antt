@@ -1,7 +1,7 @@
 use Rattle.std.proofs.Common.{◌≡◌, inl, ◌∙◌, ap, sym, subst, true, false}
 use Rattle.std.specs.List.{list_all}
 use Rattle.std.proofs.lemmas.Result.{err_from_is_err_and}
-use Rattle.asm_scan.specs.Tokens.{lexemes}
+use Rattle.asm_line.specs.Tokens.{lexemes}
 use Rattle.asm_parse.specs.Parsed.{parsed}
 use Rattle.asm_parse.specs.Source.{AreExpressionItems}
 use Rattle.asm_parse.specs.Expression.{postfix}

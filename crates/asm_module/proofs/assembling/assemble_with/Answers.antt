@@ -4,7 +4,7 @@ use Rattle.std.proofs.lemmas.Result.{err_from_is_err_and}
 use Rattle.asm_macro.specs.Texts.{source_lines}
 use Rattle.asm_module.specs.Reads.Source.{last_listed}
 use Rattle.asm_names.specs.Lines.{lines_of, taken_of}
-use Rattle.zmo_module.specs.Modules.{module_of}
+use Rattle.zmo_object.specs.Modules.{module_of}
 use Rattle.asm_module.specs.Assembled.{IsRefused, StatesLines}
 use Rattle.asm_module.proofs.Whole.{few_lines, no_fault, of_text, other_fault, passed_fault, stops}
 use Rattle.asm_module.proofs.assembling.assemble_with.Goals as goal

@@ -3,11 +3,11 @@ use Rattle.std.proofs.lemmas.List.{length-map}
 use Rattle.asm_names.specs.Layout.{layout_of, next_at}
 use Rattle.asm_names.specs.Lines.{lines_of}
 use Rattle.asm_names.specs.Meanings.{externals}
-use Rattle.asm_statements.specs.Module.Stated.{AreStated}
-use Rattle.asm_statements.specs.Outlines.{IsOutline, outline_table}
-use Rattle.asm_statements.specs.Rules.Object.{AreObjectNames, AreObjectStatements}
-use Rattle.zmo_module.specs.Modules.{Module, statement_of}
-use Rattle.zmo_module.specs.Rules.{IsModule}
+use Rattle.asm_module.specs.Module.Stated.{AreStated}
+use Rattle.asm_module.specs.Outlines.{IsOutline, outline_table}
+use Rattle.asm_module.specs.Rules.Object.{AreObjectNames, AreObjectStatements}
+use Rattle.zmo_object.specs.Modules.{Module, statement_of}
+use Rattle.zmo_object.specs.Rules.{IsModule}
 use Rattle.asm_module.proofs.Kept.{is_module, states_lines}
 use Rattle.asm_module.proofs.Passed.{equ_first, state_first, whole}
 use Rattle.asm_module.proofs.lines.assemble_lines.Goals as goal

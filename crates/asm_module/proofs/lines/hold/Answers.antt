@@ -2,7 +2,7 @@ use Rattle.std.proofs.Common.{◌≤◌, ◌∙◌, sym, ap, subst, length, map}
 use Rattle.asm_names.specs.Layout.{layout_of}
 use Rattle.asm_module.specs.Holding.{entry, listed, publics}
 use Rattle.asm_names.specs.Lines.{lines_of}
-use Rattle.zmo_module.specs.Modules.{label_of, statement_of}
+use Rattle.zmo_object.specs.Modules.{label_of, statement_of}
 use Rattle.asm_module.specs.Private.Steps.{held}
 use Rattle.asm_module.proofs.Held.{few_labels, parts_held}
 use Rattle.asm_module.proofs.lines.hold.Goals as goal

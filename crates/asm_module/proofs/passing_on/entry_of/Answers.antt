@@ -6,8 +6,8 @@ use Rattle.std.proofs.lemmas.Iterator.{YieldsList-from_slice}
 use Rattle.std.proofs.lemmas.Iterator.Adapters.{position_from-zero}
 use Rattle.std.proofs.lemmas.Iterator.Search.{position_from_yields_List}
 use Rattle.asm_names.specs.Lines.{Taken, lines_of}
-use Rattle.zmo_module.specs.declared.module.Label.{Label}
-use Rattle.zmo_module.specs.Modules.{label_of}
+use Rattle.zmo_object.specs.declared.module.Label.{Label}
+use Rattle.zmo_object.specs.Modules.{label_of}
 use Rattle.asm_module.specs.Holding.{entry, entry_name, label_number}
 use Rattle.asm_module.proofs.Holding.Collected.{position_map}
 use Rattle.asm_module.proofs.passing_on.entry_of.Goals as goal

@@ -1,6 +1,6 @@
 use Rattle.std.proofs.Common.{rules, ◌≡◌, ◌<◌, ◌+◌, ◌∙◌, length, map, take, ap}
 use Rattle.asm_names.specs.Layout.{layout_of}
-use Rattle.zmo_module.specs.Modules.{label_of}
+use Rattle.zmo_object.specs.Modules.{label_of}
 use Rattle.asm_module.specs.Holding.{label_in, labels}
 use Rattle.asm_module.proofs.Holding.Collected.{given_more, is_given}
 use Rattle.asm_module.proofs.passing_on.labels_of.Goals as goal

@@ -3,7 +3,7 @@ use Rattle.std.specs.List.{cons_option, list_any}
 use Rattle.std.specs.Str.{bytes_eq}
 use Rattle.std.proofs.lemmas.List.{append-nil}
 use Rattle.asm_names.specs.Lines.{lines_of}
-use Rattle.zmo_module.specs.Modules.{label_of}
+use Rattle.zmo_object.specs.Modules.{label_of}
 use Rattle.asm_module.specs.Holding.{listed, public_by, publics}
 use Rattle.asm_module.proofs.Holding.Collected.{numbered_more}
 use Rattle.asm_module.proofs.passing_on.publics_of.Goals as goal

@@ -1,7 +1,7 @@
 use Rattle.std.proofs.Common.{false, Ok, Err, map, refl, sym, subst, arith}
 use Rattle.std.proofs.lemmas.List.{length-map}
 use Rattle.std.proofs.lemmas.Result.{err_from_is_err_and}
-use Rattle.asm_scan.specs.Tokens.{lexeme, lexemes}
+use Rattle.asm_line.specs.Tokens.{lexeme, lexemes}
 use Rattle.asm_parse.specs.Grammar.{symbol}
 use Rattle.asm_parse.specs.Private.Parsing.{step}
 use Rattle.asm_parse.specs.Private.Stacks.{part_symbol}

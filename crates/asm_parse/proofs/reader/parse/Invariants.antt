@@ -1,5 +1,5 @@
 use Rattle.std.proofs.Common.{map}
-use Rattle.asm_scan.specs.Tokens.{lexemes}
+use Rattle.asm_line.specs.Tokens.{lexemes}
 use Rattle.asm_parse.specs.Grammar.{symbol}
 use Rattle.asm_parse.specs.Private.Readers.{ReadIn}
 use Rattle.asm_parse.proofs.reader.parse.Given as goal

@@ -1,5 +1,5 @@
 use Rattle.std.proofs.Common.{◌≡◌, ◌≤◌, ◌+◌, drop}
-use Rattle.asm_scan.specs.Tokens.{lexemes}
+use Rattle.asm_line.specs.Tokens.{lexemes}
 use Rattle.asm_spell.specs.Operands.{closed_by_last}
 use Rattle.asm_spell.proofs.cut.closed_by_last.Given as goal
 

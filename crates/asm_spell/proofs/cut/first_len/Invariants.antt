@@ -1,5 +1,5 @@
 use Rattle.std.proofs.Common.{◌≡◌, ◌≤◌, ◌+◌, drop}
-use Rattle.asm_scan.specs.Tokens.{lexemes}
+use Rattle.asm_line.specs.Tokens.{lexemes}
 use Rattle.asm_spell.specs.Private.Cutting.{first_len}
 use Rattle.asm_spell.proofs.cut.first_len.Given as goal
 

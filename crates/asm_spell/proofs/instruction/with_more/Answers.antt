@@ -1,5 +1,5 @@
 use Rattle.std.proofs.Common.{ap, not, ◌∙◌}
-use Rattle.asm_scan.specs.Tokens.{lexemes}
+use Rattle.asm_line.specs.Tokens.{lexemes}
 use Rattle.asm_spell.specs.Faults.{each}
 use Rattle.asm_spell.specs.Operands.{written_operand}
 use Rattle.asm_spell.specs.Private.Cutting.{holds, with_others}

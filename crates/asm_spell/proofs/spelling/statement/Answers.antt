@@ -1,4 +1,4 @@
-use Rattle.asm_scan.specs.Tokens.{lexemes}
+use Rattle.asm_line.specs.Tokens.{lexemes}
 use Rattle.asm_spell.proofs.Walk.{of_tokens, spelled_refusals}
 use Rattle.asm_spell.proofs.spelling.statement.Goals as goal
 

@@ -1,10 +1,10 @@
 use Rattle.std.proofs.Common.{◌∙◌, ◌+◌, ap, sym, [], arith, get_or, drop, take, ◌-◌}
 use Rattle.std.proofs.Math.ListN.{get_or-map}
 use Rattle.std.proofs.lemmas.List.{length-map}
-use Rattle.asm_scan.specs.Tokens.{lexeme, lexemes}
-use Rattle.asm_scan.specs.declared.token.Kind.{Kind}
-use Rattle.asm_scan.specs.declared.token.Token.{Token}
-use Rattle.asm_replace.specs.Pieces.{behind_all}
+use Rattle.asm_line.specs.Tokens.{lexeme, lexemes}
+use Rattle.asm_line.specs.declared.token.Kind.{Kind}
+use Rattle.asm_line.specs.declared.token.Token.{Token}
+use Rattle.asm_line.specs.Replacing.Pieces.{behind_all}
 use Rattle.asm_text.proofs.Openings.{behind_step}
 use Rattle.asm_text.proofs.open.arguments_of.Goals as goal
 

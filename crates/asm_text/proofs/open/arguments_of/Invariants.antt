@@ -1,6 +1,6 @@
 use Rattle.std.proofs.Common.{◌≡◌, ◌≤◌, ◌-◌, drop, take}
-use Rattle.asm_scan.specs.Tokens.{lexemes}
-use Rattle.asm_replace.specs.Pieces.{behind_all}
+use Rattle.asm_line.specs.Tokens.{lexemes}
+use Rattle.asm_line.specs.Replacing.Pieces.{behind_all}
 use Rattle.asm_text.proofs.open.arguments_of.Given as goal
 
 abbrev pub invariant-loop-at : goal.invariant-loop-at

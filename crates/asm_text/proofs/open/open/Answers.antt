@@ -1,6 +1,6 @@
 use Rattle.std.proofs.Common.{◌<◌, ◌∙◌, ap, subst, arith, length}
 use Rattle.std.proofs.lemmas.List.{map-append}
-use Rattle.asm_replace.specs.Views.{texts}
+use Rattle.asm_line.specs.Replacing.Views.{texts}
 use Rattle.asm_text.specs.declared.open.Local.{Local}
 use Rattle.asm_text.specs.Private.Openings.{IsLocal}
 use Rattle.asm_text.proofs.Openings.{opened_bad, opened_other, opened_names}

@@ -1,5 +1,5 @@
 use Rattle.std.proofs.Common.{◌≡◌, ◌-◌, length, Some}
-use Rattle.asm_replace.specs.Views.{texts}
+use Rattle.asm_line.specs.Replacing.Views.{texts}
 use Rattle.asm_text.specs.Calls.{opened, with_locals}
 use Rattle.asm_text.specs.Prepared.{body_texts}
 use Rattle.asm_text.proofs.open.open.Given as goal

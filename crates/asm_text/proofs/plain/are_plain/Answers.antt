@@ -1,7 +1,7 @@
 use Rattle.std.proofs.Common.{◌≡◌, ◌<◌, ◌+◌, ◌∙◌, ◌&&◌, not, ap, sym, refl, true, false, Bool, ℕ, List, [], ◌∷◌, Vec, drop, get_or, length}
 use Rattle.std.specs.Global.{Global}
 use Rattle.std.proofs.lemmas.List.{drop_all, drop_more}
-use Rattle.asm_replace.specs.Views.{texts}
+use Rattle.asm_line.specs.Replacing.Views.{texts}
 use Rattle.asm_text.specs.declared.signs.Sign.{Sign}
 use Rattle.asm_text.specs.Plain.{are_plain, is_plain}
 use Rattle.asm_text.specs.Signs.{has_sign}

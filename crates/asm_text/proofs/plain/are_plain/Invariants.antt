@@ -1,5 +1,5 @@
 use Rattle.std.proofs.Common.{◌≡◌, ◌-◌, drop, length}
-use Rattle.asm_replace.specs.Views.{texts}
+use Rattle.asm_line.specs.Replacing.Views.{texts}
 use Rattle.asm_text.specs.Plain.{are_plain}
 use Rattle.asm_text.proofs.plain.are_plain.Given as goal
 

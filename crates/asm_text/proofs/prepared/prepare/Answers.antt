@@ -3,9 +3,9 @@ use Rattle.std.specs.Map.{lookup}
 use Rattle.std.specs.Option.{option_map}
 use Rattle.std.specs.Str.{bytes_eq}
 use Rattle.std.proofs.lemmas.List.{length-map}
-use Rattle.asm_replace.specs.Replaced.{SaySame, arguments_of, local_names}
-use Rattle.asm_replace.specs.Views.{in_call}
-use Rattle.asm_replace.specs.Views as replaced
+use Rattle.asm_line.specs.Replacing.Replaced.{SaySame, arguments_of, local_names}
+use Rattle.asm_line.specs.Replacing.Views.{in_call}
+use Rattle.asm_line.specs.Replacing.Views as replaced
 use Rattle.asm_text.specs.declared.call.Call.{Call}
 use Rattle.asm_text.specs.Prepared.{said}
 use Rattle.asm_text.specs.Kept.{AreNames, opened_seen, VariesIn}

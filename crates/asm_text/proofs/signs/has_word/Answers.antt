@@ -1,7 +1,7 @@
 use Rattle.std.proofs.Common.{◌∙◌, sym, rules, tests, not}
 use Rattle.std.proofs.lemmas.Iterator.Search.{any_from_yields_List}
 use Rattle.std.proofs.lemmas.Iterator.Splits.{YieldsList-from_slice_split}
-use Rattle.asm_scan.specs.Classes.{continues_name}
+use Rattle.asm_line.specs.Classes.{continues_name}
 use Rattle.asm_text.specs.Signs.{is_sign}
 use Rattle.asm_text.proofs.Pairs.{no_pair}
 use Rattle.asm_text.proofs.signs.has_word.Goals as goal

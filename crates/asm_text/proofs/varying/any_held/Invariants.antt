@@ -1,7 +1,7 @@
 use Rattle.std.proofs.Common.{◌≡◌, [], drop}
 use Rattle.std.specs.List.{list_any}
-use Rattle.asm_scan.specs.Tokens.{lexemes}
-use Rattle.asm_replace.specs.Views.{in_call}
+use Rattle.asm_line.specs.Tokens.{lexemes}
+use Rattle.asm_line.specs.Replacing.Views.{in_call}
 use Rattle.asm_text.specs.Private.Varying.{is_held}
 use Rattle.asm_text.proofs.varying.any_held.Given as goal
 

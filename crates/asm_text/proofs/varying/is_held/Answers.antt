@@ -1,10 +1,10 @@
 use Rattle.std.proofs.Common.{◌≡◌, ◌∙◌, ◌&&◌, ap, sym, [], true, is_some}
 use Rattle.std.specs.Map.{lookup}
 use Rattle.std.specs.Str.{bytes_eq}
-use Rattle.asm_scan.specs.Tokens.{lexeme}
+use Rattle.asm_line.specs.Tokens.{lexeme}
 use Rattle.common.specs.Words.{upper}
-use Rattle.asm_line.specs.Tokens.{is_name}
-use Rattle.asm_replace.specs.Views.{in_call}
+use Rattle.asm_line.specs.Single.{is_name}
+use Rattle.asm_line.specs.Replacing.Views.{in_call}
 use Rattle.asm_text.proofs.varying.is_held.Goals as goal
 
 pub returns : goal.returns

@@ -1,5 +1,5 @@
 use Rattle.std.proofs.Common.{◌≡◌, ◌∙◌, ◌++◌, ◌∷◌, ap, sym, arith, false, [], get_or}
-use Rattle.asm_replace.specs.Views.{in_call}
+use Rattle.asm_line.specs.Replacing.Views.{in_call}
 use Rattle.asm_text.specs.Lines.{heard}
 use Rattle.asm_text.specs.Private.Varying.{may_vary}
 use Rattle.asm_text.proofs.Unvaried.{named, stays, unnamed}

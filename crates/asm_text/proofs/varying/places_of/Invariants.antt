@@ -1,6 +1,6 @@
 use Rattle.std.proofs.Common.{◌-◌, [], length}
-use Rattle.asm_replace.specs.Replaced.{ReplacementTable}
-use Rattle.asm_replace.specs.Views.{in_call}
+use Rattle.asm_line.specs.Replacing.Replaced.{ReplacementTable}
+use Rattle.asm_line.specs.Replacing.Views.{in_call}
 use Rattle.asm_text.specs.Kept.{HasOnly, Suffice}
 use Rattle.asm_text.proofs.varying.places_of.Given as goal
 

@@ -1,6 +1,6 @@
 use Rattle.std.proofs.Common.{◌≡◌, ◌++◌, [], drop, get_or}
 use Rattle.std.specs.List.{filter}
-use Rattle.asm_replace.specs.Views.{in_call}
+use Rattle.asm_line.specs.Replacing.Views.{in_call}
 use Rattle.asm_text.specs.Private.Varying.{may_vary_plain}
 use Rattle.asm_text.proofs.varying.places_with.Given as goal
 

@@ -1,6 +1,6 @@
 use Rattle.std.proofs.Common.{◌∙◌, ℕ, List, [], ap, get_or}
 use Rattle.std.specs.List.{filter}
-use Rattle.asm_replace.specs.Views.{in_call}
+use Rattle.asm_line.specs.Replacing.Views.{in_call}
 use Rattle.asm_text.specs.declared.signs.Sign.{Sign}
 use Rattle.asm_text.specs.declared.varying.Varying.{Varying}
 use Rattle.asm_text.specs.Private.Varying.{may_vary_plain}

@@ -1,6 +1,6 @@
 use Rattle.std.proofs.Common.{Err, subst}
 use Rattle.std.proofs.lemmas.Result.{err_from_is_err_and}
-use Rattle.certificate.specs.Choice.{chosen}
+use Rattle.cert_check.specs.Choice.{chosen}
 use Rattle.cert_check.specs.Private.Following.{IsFollowed, IsJudged}
 use Rattle.cert_check.proofs.Checked.{follow_fault, judge_fault, passed}
 use Rattle.cert_check.proofs.checker.judged.Goals as goal

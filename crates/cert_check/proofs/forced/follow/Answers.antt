@@ -1,7 +1,7 @@
 use Rattle.std.proofs.Common.{◌≡◌, Bool, sym, subst, refl, get_or, length}
 use Rattle.std.proofs.lemmas.Bool.{ltb-true}
 use Rattle.std.proofs.lemmas.Option.{slice_get_read}
-use Rattle.certificate.specs.declared.shape.Statement.TheVariants.{Jump}
+use Rattle.cert_check.specs.declared.shape.Statement.TheVariants.{Jump}
 use Rattle.cert_check.proofs.Bytes.{longer}
 use Rattle.cert_check.proofs.Followed.{more, not_forced}
 use Rattle.cert_check.proofs.forced.follow.Goals as goal

@@ -1,4 +1,4 @@
-use Rattle.certificate.specs.Choice.{chosen}
+use Rattle.cert_check.specs.Choice.{chosen}
 use Rattle.cert_check.proofs.Judged.{none_misses}
 use Rattle.cert_check.proofs.layout.first_miss.Goals as goal
 

@@ -1,5 +1,5 @@
 use Rattle.std.proofs.Common.{ℕ, ◌<◌}
-use Rattle.certificate.specs.Choice.{chosen}
+use Rattle.cert_check.specs.Choice.{chosen}
 use Rattle.cert_check.specs.Faults.{IsStillShort}
 use Rattle.cert_check.proofs.layout.first_miss.Given as goal
 

@@ -1,6 +1,6 @@
 use Rattle.std.proofs.Common.{inl, inr, ◌∙◌, ap, Some}
 use Rattle.std.proofs.lemmas.Option.{slice_get-get_or}
-use Rattle.certificate.specs.declared.shape.Statement.TheVariants.{Fixed}
+use Rattle.cert_check.specs.declared.shape.Statement.TheVariants.{Fixed}
 use Rattle.cert_check.proofs.Bytes.{still}
 use Rattle.cert_check.proofs.layout.misses.Goals as goal
 

@@ -1,5 +1,5 @@
 use Rattle.std.proofs.Common.{◌≡◌, ℕ, ◌<◌, All, length, get_or}
-use Rattle.certificate.specs.Choice.{chosen, size_at}
+use Rattle.cert_check.specs.Choice.{chosen, size_at}
 use Rattle.cert_check.specs.Private.Following.{IsSize}
 use Rattle.cert_check.proofs.layout.sizes_of.Given as goal
 

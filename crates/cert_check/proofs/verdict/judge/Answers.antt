@@ -1,4 +1,4 @@
-use Rattle.certificate.specs.Choice.{chosen}
+use Rattle.cert_check.specs.Choice.{chosen}
 use Rattle.cert_check.proofs.Bytes.{all_bytes, all_fit}
 use Rattle.cert_check.proofs.Judged.{best_judged, large_judged}
 use Rattle.cert_check.proofs.verdict.judge.Goals as goal

@@ -1,7 +1,7 @@
 use Rattle.std.proofs.Common.{◌≡◌, ◌<◌, length, map, refl, ap, sym, ◌∙◌, arith}
 use Rattle.std.proofs.lemmas.Result.{err_from_is_err_and}
 use Rattle.cpm_image.specs.Kind.{entry_count}
-use Rattle.cpm_directory.specs.Entries.{at}
+use Rattle.cpm_image.specs.Directory.Entries.{at}
 use Rattle.cpm_disk.specs.Calls.{PartlyChanged}
 use Rattle.cpm_disk.specs.Private.Changes.{after}
 use Rattle.cpm_disk.proofs.Changes.{halted, passed, read_at, stepped}

@@ -1,5 +1,5 @@
 use Rattle.std.proofs.Common.{◌≡◌, drop, find}
-use Rattle.cpm_directory.specs.Entries.{is_extent_of}
+use Rattle.cpm_image.specs.Directory.Entries.{is_extent_of}
 use Rattle.cpm_disk.proofs.operations.extent_entry.Given as goal
 
 -- the entry is not among those tested so far

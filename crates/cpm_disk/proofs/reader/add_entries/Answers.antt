@@ -1,6 +1,6 @@
 use Rattle.std.proofs.Common.{◌≡◌, ◌/◌, [], ap, arith, get_or, length, ◌∙◌}
 use Rattle.std.specs.Simd.{first_chunks}
-use Rattle.cpm_directory.specs.Entries.{entry_of}
+use Rattle.cpm_image.specs.Directory.Entries.{entry_of}
 use Rattle.cpm_disk.proofs.Chunks.{piece_at}
 use Rattle.cpm_disk.proofs.EntryList.{one_more_piece}
 use Rattle.cpm_disk.proofs.reader.add_entries.Goals as goal

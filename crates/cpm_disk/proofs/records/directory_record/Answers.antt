@@ -2,7 +2,7 @@ use Rattle.std.proofs.Common.{◌≡◌, ◌+◌, ◌-◌, ◌*◌, drop, length
 use Rattle.std.proofs.lemmas.Bool.{cases_eq}
 use Rattle.std.proofs.lemmas.List.{get_or_default}
 use borrow.Rule.Slice.PartMut.{put_mid}
-use Rattle.cpm_directory.specs.Entries.{at, blank, entry_of}
+use Rattle.cpm_image.specs.Directory.Entries.{at, blank, entry_of}
 use Rattle.cpm_disk.proofs.Chunks.{piece_kept, piece_put}
 use Rattle.cpm_disk.proofs.records.directory_record.Goals as goal
 

@@ -1,5 +1,5 @@
 use Rattle.std.proofs.Common.{◌≡◌, ◌<◌, ◌+◌, ◌*◌, ℕ, drop, take}
-use Rattle.cpm_directory.specs.Entries.{at, entry_of}
+use Rattle.cpm_image.specs.Directory.Entries.{at, entry_of}
 use Rattle.cpm_disk.proofs.records.directory_record.Given as goal
 
 -- the first entries are in the bytes

@@ -1,5 +1,5 @@
 use Rattle.std.proofs.Common.{Some, refl}
-use Rattle.cpm_fcb.specs.declared.stop.Stop.TheVariants as stop
+use Rattle.cpm_disk.specs.declared.control.stop.Stop.TheVariants as stop
 use Rattle.cpm_run.specs.declared.ending.Why.TheVariants as why
 use Rattle.cpm_run.proofs.Lacked.{lacked}
 use Rattle.cpm_run.proofs.Lacking.{lacking}

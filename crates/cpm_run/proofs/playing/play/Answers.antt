@@ -26,6 +26,7 @@ returns g c =
         ahead = sym made.ahead;
         last = sym made.looked;
         past = let none = made.looked in omega (arith, none);
+        allowance = let whole = made.allowance in omega (arith, whole);
         ended = sym made.ended;
       };
       here = refl;

@@ -1,6 +1,7 @@
-use Rattle.std.proofs.Common.{◌≤◌, ◌∙◌, [], inl, length, subst, sym, ap, arith}
+use Rattle.std.proofs.Common.{◌≤◌, ◌∙◌, [], ℕ, List, inl, subst, sym, ap}
+use Rattle.cpm_run.specs.declared.arriving.Arrival.{Arrival}
 use Rattle.cpm_run.specs.declared.arriving.PlayEnd.{PlayEnd}
-use Rattle.cpm_run.specs.Play.{FollowsRecord, IsShownAgain, PlaysOn, ReplayEnds, first_state}
+use Rattle.cpm_run.specs.Play.{FollowsRecord, IsShownAgain, NextIsDue, PlaysOn, ReplayEnds, due_from, first_state, last_due}
 use Rattle.cpm_run.specs.Play.PlaysOn.{same}
 use Rattle.cpm_run.specs.Private.Playing.{state_of}
 use Rattle.cpm_run.proofs.Looking.{no_event}
@@ -17,6 +18,7 @@ returns g c =
     let others = c.finish-end.ensures.others in
     let played = c.into_played.ensures in
     let final = state_of c.repeat-end.new.self closed.0 in
+    let kept = c.repeat-end.ensures.follows (ap (λ s. s.arrivals) c.new-playing.ensures.state) (ap (λ s. s.turns) c.new-playing.ensures.state) in
     inl (
       c.in-Ok.state.0,
       c.in-Ok.state.1,
@@ -30,15 +32,10 @@ returns g c =
       played.arrivals ∙ others.arrivals,
       subst (λ (e : PlayEnd). IsShownAgain e before (g.K.Station.seat c.finish-end.new.station) final) (sym played.end) closed.2,
       λ is.
-          let few = c.repeat-end.ensures.short (ap (λ s. s.arrivals) c.new-playing.ensures.state) (c.finish-end.ensures.short (sym played.end ∙ is)) in
-          let same = ap length (played.arrivals ∙ others.arrivals) in
-          omega (arith, few, same),
-      λ order.
-          let none_yet = ap (λ s. s.arrivals) c.new-playing.ensures.state in
-          let at_start = ap (λ s. s.turns) c.new-playing.ensures.state in
-          let kept = c.repeat-end.ensures.follows none_yet at_start order in (
-            subst (λ n. FollowsRecord c.args.recorded.now c.args.last n c.into_played.result.arrivals.items) (sym (played.turns ∙ others.turns)) (subst (λ l. FollowsRecord c.args.recorded.now c.args.last c.repeat-end.new.self.turns l) (sym (played.arrivals ∙ others.arrivals))
-                kept.0),
-            λ left. played.arrivals ∙ others.arrivals ∙ kept.1 (c.finish-end.ensures.left (sym played.end ∙ left)),
-          ),
+          let due = c.repeat-end.ensures.short (ap (λ s. s.arrivals) c.new-playing.ensures.state) (c.finish-end.ensures.short (sym played.end ∙ is)) in
+          subst (λ (n : ℕ). NextIsDue c.args.recorded.now n c.into_played.result.arrivals.items) (sym (played.turns ∙ others.turns))
+          (subst (λ (l : List Arrival). NextIsDue c.args.recorded.now c.repeat-end.new.self.turns l) (sym (played.arrivals ∙ others.arrivals)) due),
+      subst (λ n. FollowsRecord (due_from 0 c.args.recorded.now) (last_due 0 c.args.recorded.now c.args.last) n c.into_played.result.arrivals.items) (sym (played.turns ∙ others.turns)) (subst (λ l. FollowsRecord (due_from 0 c.args.recorded.now) (last_due 0 c.args.recorded.now c.args.last) c.repeat-end.new.self.turns l) (sym (played.arrivals ∙ others.arrivals))
+          kept.0),
+      λ left. played.arrivals ∙ others.arrivals ∙ kept.1 (c.finish-end.ensures.left (sym played.end ∙ left)),
     )

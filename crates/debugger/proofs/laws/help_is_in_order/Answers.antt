@@ -22,7 +22,7 @@ entries =
     (verb.Info ∷ [], codes "list the breakpoints and the watched bytes") ∷
     (verb.Delete ∷ [], codes "forget those at ADDR, or all of them, and list them") ∷
     (verb.Files ∷ [], codes "the files of the disk: user, name and records") ∷
-    (verb.Help ∷ verb.Quit ∷ [], codes "this list; end the session") ∷
+    (verb.Help ∷ verb.Quit ∷ [], codes "this list, or the line of a command; end the session") ∷
     []
 
 notes : List (List ℕ)
@@ -42,3 +42,7 @@ returns-clause-order c = (entries, notes, refl, refl, refl, refl)
 pub returns-clause-fits : goal.returns-clause-fits
 unfolding line_len lines_from
 returns-clause-fits c = (refl, refl)
+
+pub returns-clause-each : goal.returns-clause-each
+unfolding line_len lines_from
+returns-clause-each c = refl

@@ -1,7 +1,7 @@
 use Rattle.std.proofs.Common.{arith, map}
 use Rattle.machine_history.specs.Coming.{due}
 use Rattle.cpm_run.specs.declared.arriving.Arrival.{Arrival}
-use Rattle.machine_history.proofs.Recorded.{bytes_more}
+use Rattle.machine_history.proofs.Recordings.{bytes_more}
 use Rattle.machine_history.proofs.coming.due_bytes.Goals as goal
 
 pub loop-arrival-preserved : goal.loop-arrival-preserved

@@ -1,6 +1,6 @@
 use Rattle.std.proofs.lemmas.List.Elements.{All-map, All-push}
-use Rattle.zmo_module.specs.Modules.{module_of}
-use Rattle.zmo_module.specs.Rules.{IsModule}
+use Rattle.zmo_object.specs.Modules.{module_of}
+use Rattle.zmo_object.specs.Rules.{IsModule}
 use Rattle.map_rows.proofs.maps.modules_of.Goals as goal
 
 pub loop-source-preserved : goal.loop-source-preserved

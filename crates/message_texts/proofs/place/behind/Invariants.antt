@@ -1,6 +1,6 @@
 use Rattle.std.proofs.Common.{◌≡◌, drop}
-use Rattle.asm_scan.specs.Tokens.{lexemes}
-use Rattle.asm_replace.specs.Pieces.{behind_all}
+use Rattle.asm_line.specs.Tokens.{lexemes}
+use Rattle.asm_line.specs.Replacing.Pieces.{behind_all}
 use Rattle.message_texts.proofs.place.behind.Given as goal
 
 -- What comes after the tokens that are left is what comes after all of them.

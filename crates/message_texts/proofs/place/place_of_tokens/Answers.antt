@@ -1,6 +1,6 @@
 use Rattle.std.proofs.Common.{◌-◌, ap, ◌∙◌, arith}
 use Rattle.std.proofs.lemmas.List.{take-map, length-map}
-use Rattle.asm_scan.specs.Tokens.{lexeme}
+use Rattle.asm_line.specs.Tokens.{lexeme}
 use Rattle.message_texts.proofs.place.place_of_tokens.Goals as goal
 
 pub returns-clause-tokens : goal.returns-clause-tokens

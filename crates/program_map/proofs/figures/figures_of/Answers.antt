@@ -1,6 +1,6 @@
 use Rattle.std.proofs.Common.{◌≡◌, ◌∙◌, ◌+◌, ◌-◌, ◌++◌, ◌≤◌, [], ◌∷◌, ap, sym, arith, length, map, slice_index, take}
 use Rattle.std.proofs.lemmas.List.{length-map, length-take-le, map-append, take_more}
-use Rattle.zmo_module.specs.Modules.{statement_of}
+use Rattle.zmo_object.specs.Modules.{statement_of}
 use Rattle.program_map.specs.Figures.{CountedStatement, all_counted, counted_statement, figures, kind_at, is_relaxable_statement}
 use Rattle.program_map.specs.Private.Adding.{added, seen_kinds}
 use Rattle.program_map.proofs.Figuring.{added_bytes, added_jumps, figures_more}

@@ -1,5 +1,5 @@
 use Rattle.std.proofs.Common.{◌≡◌, ◌≤◌, ◌+◌, map, slice_index, take}
-use Rattle.zmo_module.specs.Modules.{statement_of}
+use Rattle.zmo_object.specs.Modules.{statement_of}
 use Rattle.program_map.specs.Figures.{all_counted, figures}
 use Rattle.program_map.specs.Private.Adding.{seen_kinds}
 use Rattle.program_map.proofs.figures.figures_of.Given as goal

@@ -1,6 +1,6 @@
 use Rattle.std.proofs.Common.{◌≡◌, ℕ, Bool, List, length, map, take}
 use Rattle.std.specs.List.{flat_map}
-use Rattle.zmo_module.specs.Modules.{module_of}
+use Rattle.zmo_object.specs.Modules.{module_of}
 use Rattle.zlink.specs.Program.Laws.{statement_count}
 use Rattle.zlink.specs.Sources.{Assembly, AreAssembled, modules_of, program_of}
 use Rattle.program_map.specs.Kinds.{kinds}

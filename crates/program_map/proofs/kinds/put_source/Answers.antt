@@ -1,7 +1,7 @@
 use Rattle.std.proofs.Common.{◌≡◌, ◌∙◌, ◌++◌, ap, sym, subst, map}
 use Rattle.std.proofs.lemmas.Result.{on_ok_weaker}
 use Rattle.asm_module.specs.Reads.Read.{taken}
-use Rattle.zmo_module.specs.Modules.{module_of}
+use Rattle.zmo_object.specs.Modules.{module_of}
 use Rattle.asm_names.specs.Lines.{lines_of}
 use Rattle.program_map.specs.Private.Telling.{line_kinds, told}
 use Rattle.program_map.proofs.kinds.put_source.Goals as goal

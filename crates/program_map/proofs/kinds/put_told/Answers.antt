@@ -1,5 +1,5 @@
 use Rattle.std.proofs.Common.{◌≡◌, ◌∙◌, ◌+◌, ◌∷◌, ◌++◌, [], ap, sym, arith, drop, map}
-use Rattle.zmo_module.specs.Modules.{statement_of}
+use Rattle.zmo_object.specs.Modules.{statement_of}
 use Rattle.program_map.proofs.Parting.{front_of}
 use Rattle.program_map.proofs.Told.{told_other, told_space}
 use Rattle.program_map.proofs.kinds.put_told.Goals as goal

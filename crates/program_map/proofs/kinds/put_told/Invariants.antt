@@ -1,5 +1,5 @@
 use Rattle.std.proofs.Common.{◌≡◌, ◌≤◌, ◌++◌, drop, map}
-use Rattle.zmo_module.specs.Modules.{statement_of}
+use Rattle.zmo_object.specs.Modules.{statement_of}
 use Rattle.program_map.specs.Private.Telling.{told}
 use Rattle.program_map.proofs.kinds.put_told.Given as goal
 

@@ -1,7 +1,7 @@
 use Rattle.std.proofs.Common.{◌≡◌, ◌∙◌, ◌+◌, ◌++◌, ◌∷◌, [], arith, ap, sym, append-nil, map, drop, length, get_or, slice_index}
 use Rattle.std.specs.Option.{option_map}
 use Rattle.std.proofs.lemmas.List.{drop_all, get_or-drop, length-map, map-append}
-use Rattle.zmo_module.specs.Modules.{module_of, statement_of}
+use Rattle.zmo_object.specs.Modules.{module_of, statement_of}
 use Rattle.zlink.specs.Program.Laws.{statement_count}
 use Rattle.zlink.specs.Program.Parts.{parts_from}
 use Rattle.program_map.specs.Map.{mapped_module, mapped_modules, mapped_part, summed}

@@ -1,5 +1,5 @@
 use Rattle.std.proofs.Common.{◌≡◌, ◌≤◌, ◌+◌, ◌++◌, ℕ, List, drop, map, slice_index}
-use Rattle.zmo_module.specs.Modules.{Module, module_of}
+use Rattle.zmo_object.specs.Modules.{Module, module_of}
 use Rattle.zlink.specs.Program.Laws.{statement_count}
 use Rattle.zlink.specs.Program.Parts.{parts_from}
 use Rattle.program_map.specs.Map.{mapped_modules, mapped_part, summed}

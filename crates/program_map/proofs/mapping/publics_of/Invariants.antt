@@ -1,5 +1,5 @@
 use Rattle.std.proofs.Common.{◌≡◌, ◌++◌, drop, map}
-use Rattle.zmo_module.specs.Modules.{module_of}
+use Rattle.zmo_object.specs.Modules.{module_of}
 use Rattle.zlink.specs.Program.Parts.{label_at}
 use Rattle.program_map.specs.Map.{placed_label}
 use Rattle.program_map.specs.Named.{named_of}

@@ -7,7 +7,7 @@ use Rattle.program_map.specs.Sums.{IsWholeMap}
 use Rattle.program_map.proofs.Parting.{vec_length}
 use Rattle.program_map.proofs.Wholly.{whole_map}
 use Rattle.relax.specs.Growth.{after}
-use Rattle.zmo_module.specs.Modules.{module_of}
+use Rattle.zmo_object.specs.Modules.{module_of}
 use Rattle.zlink.specs.Reads.{shape, sized_as}
 use Rattle.zlink.specs.Program.Laws.{statement_count}
 use Rattle.zlink.specs.Sources.{modules_of, program_of}

@@ -6,7 +6,7 @@ use Rattle.program_map.specs.Sums.{IsWholeMap}
 use Rattle.program_map.proofs.Parting.{vec_length}
 use Rattle.program_map.proofs.Wholly.{whole_map}
 use Rattle.relax.specs.Growth.{after}
-use Rattle.zmo_module.specs.Modules.{module_of}
+use Rattle.zmo_object.specs.Modules.{module_of}
 use Rattle.zlink.specs.File.Objects.{placed_shape}
 use Rattle.zlink.specs.Program.Whole.{program}
 use Rattle.program_map.proofs.Placing.{places_ascend}

@@ -2,7 +2,7 @@ use Rattle.std.proofs.Common.{◌≡◌, ◌++◌, drop, map, Some}
 use Rattle.std.specs.Option.{option_map}
 use Rattle.std.specs.Prelude.{filter, not}
 use Rattle.asm_names.specs.Names.{kind_of_name}
-use Rattle.asm_statements.specs.Module.Faults.{is_label}
+use Rattle.asm_module.specs.Module.Faults.{is_label}
 use Rattle.source_errors.proofs.judging.no_labels.Given as goal
 
 -- What is there and what the other elements add is all.

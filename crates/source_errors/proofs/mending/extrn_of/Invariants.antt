@@ -1,6 +1,6 @@
 use Rattle.std.proofs.Common.{◌≡◌, ◌++◌, ◌<◌, codes, drop, length}
 use Rattle.std.specs.List.{flat_map}
-use Rattle.asm_scan.specs.Tokens.{lexemes}
+use Rattle.asm_line.specs.Tokens.{lexemes}
 use Rattle.source_errors.specs.Counted.{free_name}
 use Rattle.source_errors.proofs.mending.extrn_of.Given as goal
 

@@ -2,7 +2,7 @@ use Rattle.std.proofs.Common.{◌∙◌, ◌++◌, ap, map, sym}
 use Rattle.std.specs.List.{flat_map}
 use Rattle.std.proofs.lemmas.Result.{on_ok_weaker}
 use Rattle.asm_spell.specs.Line.{body_of, value_of}
-use Rattle.asm_statements.specs.Module.Faults.{used, value_names}
+use Rattle.asm_module.specs.Module.Faults.{used, value_names}
 use Rattle.source_errors.proofs.Loops.{flat_of_map}
 use Rattle.source_errors.proofs.using.put_body.Goals as goal
 

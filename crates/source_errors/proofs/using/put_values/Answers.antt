@@ -1,7 +1,7 @@
 use Rattle.std.proofs.Common.{refl}
 use Rattle.std.specs.List.{flat_map}
 use Rattle.asm_spell.specs.Line.{value_of}
-use Rattle.asm_statements.specs.Module.Faults.{value_names}
+use Rattle.asm_module.specs.Module.Faults.{value_names}
 use Rattle.source_errors.proofs.Loops.{all_there, one_more}
 use Rattle.source_errors.proofs.using.put_values.Goals as goal
 

@@ -1,7 +1,7 @@
 use Rattle.std.proofs.Common.{◌∙◌, All, ap, arith, subst, sym, length, []}
 use Rattle.std.proofs.lemmas.List.Elements.{All-nil}
 use Rattle.asm_macro.specs.Views.{lines_seen}
-use Rattle.asm_statements.specs.Program.Spelled.{IsLineOfText}
+use Rattle.asm_module.specs.Program.Spelled.{IsLineOfText}
 use Rattle.source_errors.specs.Counted.{takens}
 use Rattle.source_errors.proofs.Judging_lines.{counted_length}
 use Rattle.source_errors.proofs.Sound.{all_texts, no_more}

@@ -1,7 +1,7 @@
 use Rattle.std.proofs.Common.{◌≡◌, ◌∙◌, ◌++◌, ap, sym, subst, None, Err, map}
 use Rattle.asm_names.specs.Faults.{IsNamed, first_name_fault}
 use Rattle.asm_names.specs.Lines.{lines_of}
-use Rattle.asm_statements.specs.Outlines.{IsOutline}
+use Rattle.asm_module.specs.Outlines.{IsOutline}
 use Rattle.source_errors.specs.Findings.{finding_of}
 use Rattle.source_errors.specs.Judged.{late_errors}
 use Rattle.source_errors.specs.Private.State.{counted_of}

@@ -1,9 +1,9 @@
 use Rattle.std.proofs.Common.{◌≡◌, ◌∙◌, ℕ, List, Vec, Global, ap, arith, length}
 use Rattle.std.proofs.lemmas.List.{length-map}
 use Rattle.asm_line.specs.Forms.{form}
-use Rattle.asm_replace.specs.Arguments.{arguments}
-use Rattle.asm_replace.specs.Views.{texts}
-use Rattle.asm_scan.specs.Tokens.{Lexeme, lexemes}
+use Rattle.asm_line.specs.Replacing.Arguments.{arguments}
+use Rattle.asm_line.specs.Replacing.Views.{texts}
+use Rattle.asm_line.specs.Tokens.{Lexeme, lexemes}
 use Rattle.asm_text.specs.Calls.{arguments_in}
 use Rattle.source_warnings.proofs.Called.{in-length}
 use Rattle.source_warnings.proofs.calls.arguments_among.Goals as goal

@@ -1,6 +1,6 @@
 use Rattle.std.specs.List.{filter_map}
 use Rattle.std.specs.Option.{option_to_list}
-use Rattle.asm_scan.specs.Tokens.{lexeme, lexemes}
+use Rattle.asm_line.specs.Tokens.{lexeme, lexemes}
 use Rattle.source_warnings.specs.Mentions.{name_of_token}
 use Rattle.source_warnings.specs.Noted.{noted_on}
 use Rattle.source_warnings.proofs.Steps.{note_more, token_adds}

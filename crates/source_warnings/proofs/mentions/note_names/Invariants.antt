@@ -1,6 +1,6 @@
 use Rattle.std.proofs.Common.{◌++◌, drop}
 use Rattle.std.specs.List.{filter_map}
-use Rattle.asm_scan.specs.Tokens.{lexemes}
+use Rattle.asm_line.specs.Tokens.{lexemes}
 use Rattle.source_warnings.specs.Mentions.{name_of_token}
 use Rattle.source_warnings.specs.Noted.{noted_on}
 use Rattle.source_warnings.specs.Private.Known.{Agrees}

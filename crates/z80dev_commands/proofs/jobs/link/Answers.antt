@@ -1,9 +1,6 @@
 use Rattle.std.proofs.Common.{codes, refl}
-use Rattle.z80dev_commands.proofs.Rows.{has_text, has_texts, reads_flag}
+use Rattle.z80dev_commands.proofs.Rows.{has_texts, reads_flag}
 use Rattle.z80dev_commands.proofs.jobs.link.Goals as goal
-
-pub text-requires : goal.text-requires
-text-requires c = has_text (codes "link") (codes "BASE") _ refl c.requires
 
 pub flag-requires : goal.flag-requires
 flag-requires c = reads_flag (codes "link") (codes "map") _ refl c.requires

@@ -1,5 +1,5 @@
 use Rattle.std.proofs.Common.{◌≡◌, ◌∙◌, length, ap, rules, if◌then◌else◌, replicate}
-use Rattle.cpm_directory.specs.Entries.{at, bytes_of}
+use Rattle.cpm_image.specs.Directory.Entries.{at, bytes_of}
 use Rattle.cpm_disk.specs.Image.{directory}
 use Rattle.z80dev_disk.proofs.Entry_bytes.{spelled}
 use Rattle.z80dev_disk.proofs.entries.entry_at.Goals as goal

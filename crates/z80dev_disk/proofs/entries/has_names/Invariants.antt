@@ -1,5 +1,5 @@
 use Rattle.std.proofs.Common.{◌≡◌, ◌<◌, ℕ, length}
-use Rattle.cpm_directory.specs.Entries.{at}
+use Rattle.cpm_image.specs.Directory.Entries.{at}
 use Rattle.cpm_disk.specs.Image.{directory}
 use Rattle.z80dev_disk.proofs.entries.has_names.Given as goal
 

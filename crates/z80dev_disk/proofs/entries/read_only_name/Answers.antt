@@ -1,9 +1,9 @@
 use Rattle.std.proofs.Common.{◌≡◌, ◌<◌, ◌≤◌, ◌&&◌, ◌∙◌, Bool, None, ap, ap₂, arith, find, length, option_map, sym, unwrap_or}
 use Rattle.std.proofs.lemmas.List.{drop_all}
 use Rattle.cpm_image.specs.Kind.{entry_count}
-use Rattle.cpm_directory.specs.declared.entry.Entry.{Entry}
-use Rattle.cpm_directory.specs.Entries.{is_match, is_read_only}
-use Rattle.cpm_directory.specs.Letters.{letters}
+use Rattle.cpm_image.specs.declared.directory.entry.Entry.{Entry}
+use Rattle.cpm_image.specs.Directory.Entries.{is_match, is_read_only}
+use Rattle.cpm_image.specs.Directory.Letters.{letters}
 use Rattle.cpm_disk.proofs.Places.{length_directory}
 use Rattle.cpm_disk.specs.Image.{directory}
 use Rattle.z80dev_disk.proofs.Entry_bytes.{found_here}

@@ -1,5 +1,5 @@
 use Rattle.std.proofs.Common.{◌≡◌, ◌&&◌, drop, find}
-use Rattle.cpm_directory.specs.Entries.{is_match, is_read_only}
+use Rattle.cpm_image.specs.Directory.Entries.{is_match, is_read_only}
 use Rattle.cpm_disk.specs.Image.{directory}
 use Rattle.z80dev_disk.proofs.entries.read_only_name.Given as goal
 

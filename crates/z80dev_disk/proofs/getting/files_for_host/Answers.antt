@@ -1,6 +1,6 @@
 use Rattle.std.proofs.Common.{◌≡◌, subst, sym, unwrap_or}
-use Rattle.cpm_directory.specs.Searches.{size}
-use Rattle.cpm_directory.specs.declared.listing.Listed.{Listed}
+use Rattle.cpm_image.specs.Directory.Searches.{size}
+use Rattle.cpm_image.specs.declared.directory.listing.Listed.{Listed}
 use Rattle.cpm_disk.specs.Calls.{Mounted}
 use Rattle.cpm_disk.specs.Image.{Image, directory}
 use Rattle.z80dev_disk.proofs.getting.files_for_host.Goals as goal

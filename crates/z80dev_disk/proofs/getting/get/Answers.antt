@@ -1,5 +1,5 @@
 use Rattle.std.proofs.Common.{IfSome, subst, sym}
-use Rattle.z80dev_finish.specs.Answers.{MemoryAside}
+use Rattle.host.specs.Answers.{MemoryAside}
 use Rattle.z80dev_disk.specs.Get.{IsGet}
 use Rattle.z80dev_disk.specs.Refusals.{IsNotFound, IsRefusalOf, WithoutName}
 use Rattle.z80dev_disk.proofs.Refused.{answers}

@@ -1,5 +1,5 @@
 use Rattle.std.proofs.Common.{IfSome, subst, sym}
-use Rattle.z80dev_finish.specs.Answers.{MemoryAside}
+use Rattle.host.specs.Answers.{MemoryAside}
 use Rattle.z80dev_disk.specs.Dir.{IsDir}
 use Rattle.z80dev_disk.specs.Refusals.{IsRefusalOf, RefusesDir}
 use Rattle.z80dev_disk.proofs.Refused.{answers}

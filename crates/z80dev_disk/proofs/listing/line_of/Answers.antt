@@ -1,6 +1,6 @@
 use Rattle.std.proofs.Common.{◌∙◌, ap, drop, if◌then◌else◌, length, take}
 use Rattle.std.proofs.lemmas.Result.{IfOk-weaker}
-use Rattle.cpm_directory.specs.Searches.{no_usage, usage_of}
+use Rattle.cpm_image.specs.Directory.Searches.{no_usage, usage_of}
 use Rattle.cpm_disk.specs.Image.{directory}
 use Rattle.z80dev_disk.specs.Dir.{usage_text}
 use Rattle.z80dev_disk.specs.Names.{trimmed, when}

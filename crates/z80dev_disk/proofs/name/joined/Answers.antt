@@ -1,6 +1,6 @@
 use Rattle.std.proofs.Common.{◌≤◌, ◌≡◌, ◌+◌, ◌-◌, ◌∙◌, ap, arith, length}
 use Rattle.std.proofs.lemmas.Bool.{and_parts, leb-true}
-use Rattle.cpm_directory.specs.Letters.{letters}
+use Rattle.cpm_image.specs.Directory.Letters.{letters}
 use Rattle.z80dev_disk.proofs.Letters.{laid, same_name}
 use Rattle.z80dev_disk.proofs.name.joined.Goals as goal
 

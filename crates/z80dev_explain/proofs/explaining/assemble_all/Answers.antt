@@ -1,8 +1,8 @@
 use Rattle.std.proofs.Common.{◌≡◌, ◌∙◌, All, ap, map, subst, sym, [], ◌∷◌}
 use Rattle.std.proofs.lemmas.List.{map-append}
 use Rattle.std.proofs.lemmas.List.Elements.{All-append, All-cons, All-nil}
-use Rattle.zmo_module.specs.Modules.{module_of}
-use Rattle.zmo_module.specs.Rules.{IsModule}
+use Rattle.zmo_object.specs.Modules.{module_of}
+use Rattle.zmo_object.specs.Rules.{IsModule}
 use Rattle.z80dev_explain.proofs.explaining.assemble_all.Goals as goal
 
 pub loop-source-preserved : goal.loop-source-preserved

@@ -3,8 +3,8 @@ use Rattle.clap.specs.Words.{HasKind, fault_of, kind_of, takes}
 use Rattle.clap.specs.declared.error.kind.ErrorKind.TheVariants as kind
 use Rattle.std.specs.Prelude.{◌⊎◌}
 use Rattle.z80dev_commands.specs.Commands.{HasRightCount, IsJob, IsMiscounted, z80dev}
-use Rattle.job_steps.specs.Reading.{reader_of}
-use Rattle.job_steps.specs.World.{world_of}
+use Rattle.host.specs.Reading.{reader_of}
+use Rattle.host.specs.World.{world_of}
 use Rattle.z80dev_jobs.proofs.Refused.{has_user, refused}
 use Rattle.z80dev_jobs.proofs.dispatch.command.Goals as goal
 

@@ -1,11 +1,11 @@
 use Rattle.std.proofs.Common.{refl, subst}
-use Rattle.z80dev_finish.specs.End.{Tells}
-use Rattle.job_steps.specs.Reporting.{Reports, JudgesBad}
+use Rattle.host.specs.End.{Tells}
+use Rattle.host.specs.Reporting.{Reports, JudgesBad}
 use Rattle.z80dev_jobs.specs.Explaining.{ExplainEnds}
-use Rattle.job_steps.specs.Ending.{ended}
+use Rattle.host.specs.Ending.{ended}
 use Rattle.z80dev_jobs.specs.Values.{bad_in_explain}
-use Rattle.job_steps.specs.World.{world_of}
-use Rattle.job_steps.proofs.Defined.{goes_on, none_bad}
+use Rattle.host.specs.World.{world_of}
+use Rattle.host.proofs.Defined.{goes_on, none_bad}
 use Rattle.z80dev_jobs.proofs.dispatch.explain_job.Goals as goal
 
 pub returns : goal.returns

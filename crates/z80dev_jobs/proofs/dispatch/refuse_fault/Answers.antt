@@ -1,7 +1,7 @@
 use Rattle.std.proofs.Common.{inl, refl, subst, ◌∙◌}
-use Rattle.z80dev_finish.specs.End.{IsPut}
-use Rattle.streams.specs.Writing.{error_line}
-use Rattle.job_steps.proofs.Carried.{put_so}
+use Rattle.host.specs.End.{IsPut}
+use Rattle.host.specs.Streams.Writing.{error_line}
+use Rattle.host.proofs.Carried.{put_so}
 use Rattle.z80dev_jobs.proofs.dispatch.refuse_fault.Goals as goal
 
 pub returns-in-Ok : goal.returns-in-Ok

@@ -1,6 +1,6 @@
 use Rattle.std.proofs.Common.{inl, inr, refl, sym, ◌∙◌}
-use Rattle.streams.specs.Writing.{error_line}
-use Rattle.job_steps.proofs.Carried.{put_so}
+use Rattle.host.specs.Streams.Writing.{error_line}
+use Rattle.host.proofs.Carried.{put_so}
 use Rattle.z80dev_jobs.proofs.dispatch.refuse_words.Goals as goal
 
 pub returns : goal.returns

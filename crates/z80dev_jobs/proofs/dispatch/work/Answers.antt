@@ -1,7 +1,7 @@
 use Rattle.std.proofs.Common.{refl}
-use Rattle.disk_jobs.specs.Disks.{DiskJobEnds}
-use Rattle.job_steps.specs.Ending.{ended}
-use Rattle.job_steps.specs.Reading.{reader_of}
+use Rattle.z80dev.specs.Disks.{DiskJobEnds}
+use Rattle.host.specs.Ending.{ended}
+use Rattle.host.specs.Reading.{reader_of}
 use Rattle.z80dev_jobs.proofs.Reported.{reported}
 use Rattle.z80dev_jobs.proofs.dispatch.work.Goals.{in-Pipe, in-Asm, in-Link, in-Build, in-Explain, in-Check, in-Dis, in-Disk, in-Debug}
 use Rattle.z80dev_jobs.proofs.dispatch.work.Goals as goal

@@ -2,9 +2,9 @@ use Rattle.std.proofs.Common.{◌∙◌, ap, inl, inr, length, map, refl, subst,
 use Rattle.std.proofs.lemmas.Result.{err_from_is_err_and}
 use Rattle.std.specs.List.{AllZip}
 use Rattle.z80dev_jobs.specs.Explaining.{Explains, explained_paths}
-use Rattle.job_steps.specs.Ending.{ended}
-use Rattle.job_steps.specs.Reading.{IsOneNotRead, IsRead}
-use Rattle.build_jobs.proofs.Clear.{as_many}
+use Rattle.host.specs.Ending.{ended}
+use Rattle.host.specs.Reading.{IsOneNotRead, IsRead}
+use Rattle.z80dev.proofs.Clear.{as_many}
 use Rattle.z80dev_jobs.proofs.explaining.explain_files.Goals as goal
 
 pub returns-in_err-fronts : goal.returns-in_err-fronts

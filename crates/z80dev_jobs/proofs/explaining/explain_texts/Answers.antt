@@ -1,8 +1,8 @@
 use Rattle.std.proofs.Common.{ap, inl, inr, map, option_map, refl, string_bytes, subst}
 use Rattle.std.proofs.lemmas.Result.{err_from_is_err_and}
 use Rattle.z80dev_explain.specs.Explanation.{IsExplanation}
-use Rattle.shared_lines.specs.declared.front.Front.{Front}
-use Rattle.build_jobs.proofs.Clear.{are_files}
+use Rattle.report_texts.specs.declared.front.Front.{Front}
+use Rattle.z80dev.proofs.Clear.{are_files}
 use Rattle.z80dev_jobs.proofs.explaining.explain_texts.Goals as goal
 
 pub returns-in_err-shared_files : goal.returns-in_err-shared_files

@@ -2,7 +2,7 @@ use Rattle.std.proofs.Common.{◌≡◌, ◌<◌, ◌+◌, ◌++◌, ◌∷◌, 
 use Rattle.std.proofs.lemmas.List.{length_push, length-map, length-take-le, map_push, take_more}
 use Rattle.std.proofs.lemmas.Result.{err_from_is_err_and}
 use Rattle.z80dev_jobs.specs.Words.{AreTexts, ReadsWord}
-use Rattle.job_steps.proofs.One_by_one.{text_at}
+use Rattle.host.proofs.One_by_one.{text_at}
 use Rattle.z80dev_jobs.proofs.One_word.{IsTextOf, more, unread}
 use Rattle.z80dev_jobs.proofs.words.texts_of.Goals as goal
 

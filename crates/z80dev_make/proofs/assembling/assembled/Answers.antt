@@ -1,9 +1,9 @@
 use Rattle.std.proofs.Common.{◌++◌, ◌∙◌, Ok, Err, ap, refl, subst, sym}
 use Rattle.asm_module.specs.Assembled.{Assembles, IsRefused, assembled_of}
-use Rattle.z80dev_finish.specs.Answers.{nothing}
-use Rattle.shared_lines.specs.Front.{front_text}
+use Rattle.host.specs.Answers.{nothing}
+use Rattle.report_texts.specs.Front.{front_text}
 use Rattle.z80dev_make.specs.Warned.{AreModuleWarnings}
-use Rattle.shared_lines.proofs.Refused.{caused}
+use Rattle.report_texts.proofs.Refused.{caused}
 use Rattle.z80dev_make.proofs.assembling.assembled.Goals as goal
 
 pub returns-in_ok-warnings-in-Ok-clause-answer : goal.returns-in_ok-warnings-in-Ok-clause-answer

@@ -1,6 +1,6 @@
 use Rattle.std.proofs.Common.{ap, map, subst, sym, ◌++◌, ◌∙◌}
 use Rattle.std.specs.List.{AllZip}
-use Rattle.shared_lines.specs.Behind.{IsBehind}
+use Rattle.report_texts.specs.Behind.{IsBehind}
 use Rattle.z80dev_make.proofs.building.built_behind.Goals as goal
 
 pub sources_behind-requires : goal.sources_behind-requires

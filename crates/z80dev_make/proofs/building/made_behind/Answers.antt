@@ -2,9 +2,9 @@ use Rattle.std.proofs.Common.{[], ◌≡◌, length, arith, sym, subst, ◌∙�
 use Rattle.std.specs.List.{AllZip}
 use Rattle.std.proofs.lemmas.Bool.Decides.{nat_tests}
 use Rattle.std.proofs.lemmas.List.{nil_from_length}
-use Rattle.shared_lines.specs.Behind.{IsBehind}
-use Rattle.shared_lines.specs.Front.{front_text}
-use Rattle.shared_lines.proofs.Named.{alone_behind}
+use Rattle.report_texts.specs.Behind.{IsBehind}
+use Rattle.report_texts.specs.Front.{front_text}
+use Rattle.report_texts.proofs.Named.{alone_behind}
 use Rattle.z80dev_make.proofs.building.made_behind.Goals as goal
 
 pub built-requires : goal.built-requires

@@ -2,11 +2,11 @@ use Rattle.std.proofs.Common.{◌≡◌, ◌<◌, ℕ, List, [], ◌∷◌, Err,
 use Rattle.std.specs.List.{AllZip}
 use Rattle.std.proofs.lemmas.List.{get_or-map, length-map, map-append, take_all}
 use Rattle.std.proofs.lemmas.List.Elements.{All-append, All-cons, All-nil}
-use Rattle.zmo_module.specs.Modules.{module_of}
-use Rattle.zmo_module.specs.Rules.{IsModule}
+use Rattle.zmo_object.specs.Modules.{module_of}
+use Rattle.zmo_object.specs.Rules.{IsModule}
 use Rattle.zmo_object.specs.Reading.{AnswersAsRead, read_of}
 use Rattle.z80dev_make.specs.Link.{IsObject}
-use Rattle.shared_lines.proofs.In_order.{one_more}
+use Rattle.report_texts.proofs.In_order.{one_more}
 use Rattle.z80dev_make.proofs.In_order.{stops}
 use Rattle.z80dev_make.proofs.linking.read_all.Goals as goal
 

@@ -1,7 +1,7 @@
 use Rattle.std.proofs.Common.{All, map, take}
 use Rattle.std.specs.List.{AllZip}
-use Rattle.zmo_module.specs.Modules.{module_of}
-use Rattle.zmo_module.specs.Rules.{IsModule}
+use Rattle.zmo_object.specs.Modules.{module_of}
+use Rattle.zmo_object.specs.Rules.{IsModule}
 use Rattle.z80dev_make.specs.Link.{IsObject}
 use Rattle.z80dev_make.proofs.linking.read_all.Given as goal
 

@@ -1,5 +1,5 @@
 use Rattle.std.proofs.Common.{◌≡◌, ◌==◌, drop, find, map}
-use Rattle.zmo_module.specs.Modules.{label_of}
+use Rattle.zmo_object.specs.Modules.{label_of}
 use Rattle.z80dev_make.proofs.warned.label_at.Given as goal
 
 -- The label is among those that are left.

@@ -1,5 +1,5 @@
 use Rattle.std.proofs.Common.{◌≡◌, map, take}
-use Rattle.shared_lines.specs.Front.{earlier, front_lines}
+use Rattle.report_texts.specs.Front.{earlier, front_lines}
 use Rattle.z80dev_make.proofs.warning.all_own_lines.Given as goal
 
 abbrev pub invariant-loop-module : goal.invariant-loop-module

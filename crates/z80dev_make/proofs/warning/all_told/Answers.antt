@@ -1,7 +1,7 @@
 use Rattle.std.proofs.Common.{arith, map}
 use Rattle.z80dev_make.specs.Private.Shown.{shown_of}
 use Rattle.z80dev_make.specs.Warned.{IsGivenAs}
-use Rattle.shared_lines.proofs.In_order.{one_more}
+use Rattle.report_texts.proofs.In_order.{one_more}
 use Rattle.z80dev_make.proofs.warning.all_told.Goals as goal
 
 pub loop-warning-preserved : goal.loop-warning-preserved

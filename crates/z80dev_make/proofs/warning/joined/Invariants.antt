@@ -1,6 +1,6 @@
 use Rattle.std.proofs.Common.{◌≡◌, ◌++◌, drop, map}
 use Rattle.std.specs.List.{zip}
-use Rattle.jump_warnings.specs.Parts.{member_of}
+use Rattle.source_warnings.specs.Jumps.Parts.{member_of}
 use Rattle.z80dev_make.specs.Private.Shown.{member_with}
 use Rattle.z80dev_make.proofs.warning.joined.Given as goal
 

@@ -1,13 +1,13 @@
 use Rattle.std.proofs.Common.{◌∙◌, All, List, ap, map, subst, sym}
 use Rattle.std.specs.List.{AllZip, zip}
 use Rattle.std.proofs.lemmas.Result.{IfOk-weaker}
-use Rattle.zmo_module.specs.Modules.{module_of}
-use Rattle.zmo_module.specs.Rules.{IsModule}
-use Rattle.zmo_module.specs.declared.module.Module as held
+use Rattle.zmo_object.specs.Modules.{module_of}
+use Rattle.zmo_object.specs.Rules.{IsModule}
+use Rattle.zmo_object.specs.declared.module.Module as held
 use Rattle.zlink.specs.Program.Faults.{first_fault}
-use Rattle.shared_lines.specs.Front.{earlier, front_lines}
-use Rattle.jump_warnings.specs.declared.warnings.Warning.{Warning}
-use Rattle.jump_warnings.specs.Warnings.{all_warnings}
+use Rattle.report_texts.specs.Front.{earlier, front_lines}
+use Rattle.source_warnings.specs.declared.jumps.warnings.Warning.{Warning}
+use Rattle.source_warnings.specs.Jumps.Warnings.{all_warnings}
 use Rattle.z80dev_make.specs.Private.Shown.{shown_in}
 use Rattle.z80dev_make.specs.Warned.{IsGivenAs, found_unless, joined}
 use Rattle.z80dev_make.proofs.Held.{all_built}

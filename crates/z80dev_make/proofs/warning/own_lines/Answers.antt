@@ -1,6 +1,6 @@
 use Rattle.std.proofs.Common.{map, length, ap, ◌∙◌}
 use Rattle.std.proofs.lemmas.List.{length-map, with_items_is}
-use Rattle.shared_lines.specs.Front.{earlier, front_lines}
+use Rattle.report_texts.specs.Front.{earlier, front_lines}
 use Rattle.z80dev_make.proofs.warning.own_lines.Goals as goal
 
 pub returns : goal.returns

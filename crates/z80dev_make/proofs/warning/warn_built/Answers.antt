@@ -1,11 +1,11 @@
 use Rattle.std.proofs.Common.{◌∙◌, All, ap, map, subst, sym}
 use Rattle.std.specs.List.{zip}
 use Rattle.std.proofs.lemmas.Result.{IfOk-weaker}
-use Rattle.zmo_module.specs.Modules.{module_of}
-use Rattle.zmo_module.specs.Rules.{IsModule}
+use Rattle.zmo_object.specs.Modules.{module_of}
+use Rattle.zmo_object.specs.Rules.{IsModule}
 use Rattle.zlink.specs.Program.Faults.{first_fault}
-use Rattle.jump_warnings.specs.Warnings.{all_warnings}
-use Rattle.shared_lines.specs.Front.{earlier, front_lines}
+use Rattle.source_warnings.specs.Jumps.Warnings.{all_warnings}
+use Rattle.report_texts.specs.Front.{earlier, front_lines}
 use Rattle.z80dev_make.specs.Private.Shown.{shown_in}
 use Rattle.z80dev_make.specs.Warned.{joined, found_unless, source_shown, jump_warning_lines}
 use Rattle.z80dev_make.proofs.Held.{all_shown, each_own}

@@ -1,5 +1,5 @@
 use Rattle.std.proofs.Common.{◌∙◌, inl, inr, subst}
-use Rattle.streams.specs.Writing.{Puts}
+use Rattle.host.specs.Streams.Writing.{Puts}
 use Rattle.z80dev_run.proofs.ending.tell_why.Goals as goal
 
 pub returns-in-Ok : goal.returns-in-Ok

@@ -1,5 +1,5 @@
 use Rattle.std.proofs.Common.{sym, ◌∙◌}
-use Rattle.z80dev_run.proofs.OneRecord.{one_record}
+use Rattle.machine_history.proofs.OneRecord.{one_record}
 use Rattle.z80dev_run.proofs.laws.one_record.Goals as goal
 
 pub returns : goal.returns

@@ -1,8 +1,8 @@
 use Rattle.std.proofs.Common.{◌<◌, List, Err, Ok, All, map, slice_index, sym, ap, subst, ◌∙◌}
 use Rattle.std.proofs.lemmas.List.Elements.{All-map, All-weaker}
 use Rattle.std.proofs.lemmas.Result.{err_from_is_err_and}
-use Rattle.zmo_module.specs.Modules.{module_of}
-use Rattle.zmo_module.specs.Rules.{IsModule}
+use Rattle.zmo_object.specs.Modules.{module_of}
+use Rattle.zmo_object.specs.Rules.{IsModule}
 use Rattle.zlink.specs.Built.{origins_by}
 use Rattle.zlink.specs.Linked.{IsLinked}
 use Rattle.zlink.specs.Sources.{Assembly, modules_of}

@@ -1,5 +1,5 @@
 use Rattle.std.proofs.Common.{Ok, subst, ◌∙◌}
-use Rattle.certificate.specs.Texts.{ReadsCert, ReadsSizes}
+use Rattle.cert_check.specs.Texts.{ReadsCert, ReadsSizes}
 use Rattle.zlink.specs.Certified.{told_verdict}
 use Rattle.zlink.proofs.Agreement.{certified}
 use Rattle.zlink.proofs.certify.certify.Goals as goal

@@ -5,7 +5,7 @@ use Rattle.relax.specs.Choice.{IsShape, chosen, place}
 use Rattle.relax.specs.declared.growth.Growth.{Growth}
 use Rattle.relax.specs.declared.growth.Verdict.TheVariants.{Best}
 use Rattle.relax.specs.Growth.{IsGrowth, after}
-use Rattle.zmo_module.specs.Modules.{Module, module_of}
+use Rattle.zmo_object.specs.Modules.{Module, module_of}
 use Rattle.zlink.specs.Program.Whole.{program}
 use Rattle.zlink.specs.File.Objects.{ReadsObjects, grown, placed_shape, sized_by}
 use Rattle.zlink.specs.File.Places.{ArePlaces}

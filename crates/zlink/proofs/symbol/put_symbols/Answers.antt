@@ -1,7 +1,7 @@
 use Rattle.std.proofs.Common.{◌+◌, ◌++◌, List, map, slice_index, sym, ap, ◌∙◌, arith}
 use Rattle.std.proofs.lemmas.List.{take_all}
-use Rattle.zmo_module.specs.declared.module.Label.{Label}
-use Rattle.zmo_module.specs.Modules.{label_of}
+use Rattle.zmo_object.specs.declared.module.Label.{Label}
+use Rattle.zmo_object.specs.Modules.{label_of}
 use Rattle.zlink.specs.Linked.{symbol_of, Symbol}
 use Rattle.zlink.proofs.Symbols.{mapped}
 use Rattle.zlink.proofs.symbol.put_symbols.Goals as goal

@@ -1,7 +1,7 @@
 use Rattle.std.proofs.Common.{◌++◌, map, slice_index, sym, ap, ◌∙◌, arith}
 use Rattle.std.specs.List.{flat_map}
 use Rattle.std.proofs.lemmas.List.{length-map, take_all}
-use Rattle.zmo_module.specs.Modules.{module_of}
+use Rattle.zmo_object.specs.Modules.{module_of}
 use Rattle.zlink.specs.Program.Laws.{part_at}
 use Rattle.zlink.specs.Program.Parts.{parts}
 use Rattle.zlink.proofs.Files.Linking.{ends, here, length-parts, links-long}

@@ -1,6 +1,6 @@
 use Rattle.std.proofs.Common.{◌≡◌, map, slice_index, take}
 use Rattle.std.specs.List.{flat_map}
-use Rattle.zmo_module.specs.Modules.{module_of}
+use Rattle.zmo_object.specs.Modules.{module_of}
 use Rattle.zlink.specs.Program.Parts.{parts}
 use Rattle.zlink.specs.Linked.{symbol_of, symbols_in}
 use Rattle.zlink.proofs.symbol.symbols_of.Given as goal

@@ -1,6 +1,6 @@
 use Rattle.std.proofs.Common.{◌+◌}
 use Rattle.std.proofs.lemmas.Result.{err_from_is_err_and}
-use Rattle.zmo_module.specs.Holes.{width_size}
+use Rattle.zmo_object.specs.Holes.{width_size}
 use Rattle.zmo_object.specs.Fields.Field.{many}
 use Rattle.zmo_object.proofs.Fields.Many.{ends, goes_on, is_done}
 use Rattle.zmo_object.specs.Reading.{hole_at}

@@ -1,5 +1,5 @@
 use Rattle.std.proofs.Common.{◌-◌, ◌+◌}
-use Rattle.zmo_module.specs.Holes.{width_size}
+use Rattle.zmo_object.specs.Holes.{width_size}
 use Rattle.zmo_object.specs.Fields.Field.{many}
 use Rattle.zmo_object.proofs.Fields.Many.{GoesOn}
 use Rattle.zmo_object.specs.Reading.{hole_at}

@@ -1,5 +1,5 @@
 use Rattle.std.proofs.lemmas.Bool.Decides.{same_from_decides}
-use Rattle.asm_value.proofs.Refs.{all_below, below_all}
+use Rattle.asm_parse.proofs.Refs.{all_below, below_all}
 use Rattle.zmo_object.proofs.hole.is_within.Goals as goal
 
 pub returns : goal.returns

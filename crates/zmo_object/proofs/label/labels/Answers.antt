@@ -1,7 +1,7 @@
 use Rattle.std.proofs.Common.{◌∷◌, [], map, append_assoc}
 use Rattle.std.proofs.lemmas.List.{map_push}
 use Rattle.std.proofs.lemmas.Result.{err_from_is_err_and}
-use Rattle.zmo_module.specs.Modules.{label_of}
+use Rattle.zmo_object.specs.Modules.{label_of}
 use Rattle.zmo_object.specs.Fields.Field.{many}
 use Rattle.zmo_object.proofs.Fields.Many.{ends, goes_on, is_done}
 use Rattle.zmo_object.specs.Reading.{label_field, with_label}

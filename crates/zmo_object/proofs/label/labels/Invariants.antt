@@ -1,5 +1,5 @@
 use Rattle.std.proofs.Common.{◌≡◌, ◌-◌, ◌++◌, map}
-use Rattle.zmo_module.specs.Modules.{label_of}
+use Rattle.zmo_object.specs.Modules.{label_of}
 use Rattle.zmo_object.specs.Fields.Field.{many}
 use Rattle.zmo_object.proofs.Fields.Many.{GoesOn}
 use Rattle.zmo_object.specs.Reading.{label_field, with_label}

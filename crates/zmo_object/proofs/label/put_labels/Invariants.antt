@@ -1,6 +1,6 @@
 use Rattle.std.proofs.Common.{◌≡◌, ◌++◌, take, map}
 use Rattle.std.specs.List.{flat_map}
-use Rattle.zmo_module.specs.Modules.{label_of}
+use Rattle.zmo_object.specs.Modules.{label_of}
 use Rattle.zmo_object.specs.Texts.{label_text}
 use Rattle.zmo_object.proofs.label.put_labels.Given as goal
 

@@ -1,6 +1,6 @@
 use Rattle.std.proofs.Common.{cond, Some, None, ap, sym, ◌∙◌}
 use Rattle.std.specs.Option.{option_map, option_and_then}
-use Rattle.asm_value.specs.Private.Steps.{is_expr}
+use Rattle.asm_parse.specs.Private.Steps.{is_expr}
 use Rattle.zmo_object.proofs.Fields.Items.{judged_expr}
 use Rattle.zmo_object.proofs.postfix.expr_of.Goals as goal
 

@@ -1,5 +1,5 @@
 use Rattle.std.proofs.Common.{◌≡◌, ◌-◌, ◌+◌, suc, ap, sym, ◌∙◌, arith}
-use Rattle.asm_value.specs.declared.expr.TheConstants.{MOST_ITEMS}
+use Rattle.asm_parse.specs.declared.values.expr.TheConstants.{MOST_ITEMS}
 use Rattle.zmo_object.specs.Fields.Postfix.{items_within}
 use Rattle.zmo_object.proofs.Fields.Items.{goes_on, stops, ends, with_front}
 use Rattle.zmo_object.proofs.postfix.items_of.Goals as goal

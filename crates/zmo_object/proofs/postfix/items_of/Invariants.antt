@@ -1,6 +1,6 @@
 use Rattle.std.proofs.Common.{◌≡◌, ◌-◌, ◌++◌}
 use Rattle.std.specs.Option.{option_map}
-use Rattle.asm_value.specs.declared.expr.TheConstants.{MOST_ITEMS}
+use Rattle.asm_parse.specs.declared.values.expr.TheConstants.{MOST_ITEMS}
 use Rattle.zmo_object.specs.Fields.Postfix.{items_of, items_within}
 use Rattle.zmo_object.proofs.postfix.items_of.Given as goal
 

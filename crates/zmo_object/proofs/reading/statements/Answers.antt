@@ -1,7 +1,7 @@
 use Rattle.std.proofs.Common.{ℕ, map}
 use Rattle.std.proofs.lemmas.List.{map_push}
 use Rattle.std.proofs.lemmas.Result.{err_from_is_err_and}
-use Rattle.zmo_module.specs.Modules.{statement_of}
+use Rattle.zmo_object.specs.Modules.{statement_of}
 use Rattle.zmo_object.specs.Fields.Field.{each_field}
 use Rattle.zmo_object.proofs.Fields.Many.{ends, goes_on, is_done}
 use Rattle.zmo_object.specs.Reading.{statement_at}

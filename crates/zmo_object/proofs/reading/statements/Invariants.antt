@@ -1,5 +1,5 @@
 use Rattle.std.proofs.Common.{◌-◌, ℕ, map}
-use Rattle.zmo_module.specs.Modules.{statement_of}
+use Rattle.zmo_object.specs.Modules.{statement_of}
 use Rattle.zmo_object.specs.Fields.Field.{each_field}
 use Rattle.zmo_object.proofs.Fields.Many.{GoesOn}
 use Rattle.zmo_object.specs.Reading.{statement_at}

@@ -1,5 +1,5 @@
-use Rattle.zmo_module.specs.Modules.{module_of}
-use Rattle.zmo_module.specs.Rules.{refs_of}
+use Rattle.zmo_object.specs.Modules.{module_of}
+use Rattle.zmo_object.specs.Rules.{refs_of}
 use Rattle.zmo_object.proofs.Fits.{externals_short, header_fits, labels_short, statements_fit}
 use Rattle.zmo_object.proofs.writing.write.Goals as goal
 

@@ -1,5 +1,5 @@
 use Rattle.std.proofs.Common.{◌∙◌, ◌++◌, ◌∷◌, [], ap, sym, is_some}
-use Rattle.asm_scan.specs.Tokens.{lexemes}
+use Rattle.asm_line.specs.Tokens.{lexemes}
 use Rattle.common.specs.Words.{upper}
 use Rattle.asm_expr.specs.Names.{found}
 use Rattle.asm_macro.specs.Values.{value_of_tokens}

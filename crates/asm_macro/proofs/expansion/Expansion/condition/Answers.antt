@@ -1,6 +1,6 @@
 use Rattle.std.proofs.Common.{◌≡◌, ◌∙◌, ap, sym, subst, Some, Err}
 use Rattle.std.specs.Option.{option_map}
-use Rattle.asm_scan.specs.Tokens.{lexemes}
+use Rattle.asm_line.specs.Tokens.{lexemes}
 use Rattle.asm_text.specs.Sections.Blocks.{branches_of}
 use Rattle.asm_text.specs.Sections.Sections.{branches_seen}
 use Rattle.asm_macro.specs.State as state

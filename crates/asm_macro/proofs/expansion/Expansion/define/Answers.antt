@@ -3,8 +3,8 @@ use Rattle.std.specs.Map.{lookup}
 use Rattle.std.specs.Option.{option_map}
 use Rattle.std.specs.Str.{bytes_eq}
 use Rattle.common.specs.Words.{is_reserved, upper}
-use Rattle.asm_replace.specs.Views.{texts}
-use Rattle.asm_line.specs.Views.{form_seen}
+use Rattle.asm_line.specs.Replacing.Views.{texts}
+use Rattle.asm_line.specs.FormViews.{form_seen}
 use Rattle.asm_text.specs.Prepared.{macro_seen, macros_seen}
 use Rattle.asm_macro.specs.State.{macro_named}
 use Rattle.asm_macro.specs.Ahead.{seen}

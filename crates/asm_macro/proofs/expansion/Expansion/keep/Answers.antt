@@ -3,7 +3,7 @@ use Rattle.std.specs.List.{slice_get}
 use Rattle.std.specs.Option.{option_map}
 use Rattle.std.proofs.lemmas.List.Elements.{All-push, All-same}
 use Rattle.indexmap.proofs.CallerLemmas.{insert_entry-new}
-use Rattle.asm_replace.specs.Views.{texts}
+use Rattle.asm_line.specs.Replacing.Views.{texts}
 use Rattle.asm_text.specs.Sections.Blocks.{block_body}
 use Rattle.asm_text.specs.Sections.Onward.{stray}
 use Rattle.asm_text.specs.Sections.Sections.{body_seen, numbered_line}

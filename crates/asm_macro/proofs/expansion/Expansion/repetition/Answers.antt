@@ -1,6 +1,6 @@
 use Rattle.std.proofs.Common.{◌≡◌, ◌∙◌, ap, sym, subst, Some, Err, arith}
 use Rattle.std.specs.Option.{option_map}
-use Rattle.asm_scan.specs.Tokens.{lexemes}
+use Rattle.asm_line.specs.Tokens.{lexemes}
 use Rattle.asm_text.specs.Sections.Blocks.{block_body}
 use Rattle.asm_text.specs.Sections.Sections.{body_seen}
 use Rattle.asm_macro.specs.State as state

@@ -1,5 +1,5 @@
 use Rattle.std.proofs.Common.{◌∙◌, ap, sym, subst, arith}
-use Rattle.asm_scan.specs.Tokens.{lexemes}
+use Rattle.asm_line.specs.Tokens.{lexemes}
 use Rattle.asm_macro.specs.State.{with_line_counted}
 use Rattle.asm_macro.specs.Ahead.{seen}
 use Rattle.asm_macro.specs.Private.Heads.{by_head}

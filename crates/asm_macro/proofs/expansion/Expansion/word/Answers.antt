@@ -1,8 +1,8 @@
 use Rattle.std.proofs.Common.{◌≡◌, ◌<◌, ◌+◌, ◌∙◌, ◌∷◌, ap, sym, subst, refl, length, arith, IfSome, Some, None, Ok}
 use Rattle.asm_macro.specs.declared.take.TheConstants.{MOST_NESTED}
-use Rattle.asm_scan.specs.Tokens.{lexemes}
+use Rattle.asm_line.specs.Tokens.{lexemes}
 use Rattle.common.specs.Words.{upper}
-use Rattle.asm_line.specs.Views.{form_seen}
+use Rattle.asm_line.specs.FormViews.{form_seen}
 use Rattle.asm_macro.specs.declared.fault.MacroFault.{MacroFault}
 use Rattle.asm_macro.specs.State.{called_by, macro_called}
 use Rattle.asm_text.specs.Kept.{IsCall}

@@ -1,7 +1,7 @@
 use Rattle.std.proofs.Common.{◌-◌, ◌++◌, refl, ap, ◌∙◌}
 use Rattle.z80_form.specs.Numbers.{with_number}
 use Rattle.asm_stmt.specs.Cells.{hole}
-use Rattle.zmo_module.specs.Holes.{width_size}
+use Rattle.zmo_object.specs.Holes.{width_size}
 use Rattle.asm_stmt.proofs.Coding.{one_more}
 use Rattle.asm_stmt.proofs.code.Coded.put.Goals as goal
 

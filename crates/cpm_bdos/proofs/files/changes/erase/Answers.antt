@@ -1,5 +1,5 @@
 use Rattle.std.proofs.Common.{ap, sym, ◌∙◌}
-use Rattle.cpm_fcb.specs.Fcbs.{drive_judged, name_of}
+use Rattle.cpm_disk.specs.Control.Fcbs.{drive_judged, name_of}
 use Rattle.cpm_bdos.proofs.files.changes.erase.Goals as goal
 
 pub returns : goal.returns

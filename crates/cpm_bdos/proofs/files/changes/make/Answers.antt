@@ -1,6 +1,6 @@
 use Rattle.std.proofs.Common.{Err, ap, subst, sym, ◌∙◌}
-use Rattle.cpm_directory.specs.Letters.{letters}
-use Rattle.cpm_fcb.specs.Fcbs.{file_judged, name_of}
+use Rattle.cpm_image.specs.Directory.Letters.{letters}
+use Rattle.cpm_disk.specs.Control.Fcbs.{file_judged, name_of}
 use Rattle.cpm_disk.specs.Operations.{IsCreated}
 use Rattle.cpm_bdos.proofs.files.changes.make.Goals as goal
 

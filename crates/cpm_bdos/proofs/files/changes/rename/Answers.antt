@@ -1,6 +1,6 @@
 use Rattle.std.proofs.Common.{ap, sym, ◌∙◌}
-use Rattle.cpm_directory.specs.Letters.{letters}
-use Rattle.cpm_fcb.specs.Fcbs.{name_of, names_judged, new_name_of}
+use Rattle.cpm_image.specs.Directory.Letters.{letters}
+use Rattle.cpm_disk.specs.Control.Fcbs.{name_of, names_judged, new_name_of}
 use Rattle.cpm_bdos.proofs.files.changes.rename.Goals as goal
 
 pub returns : goal.returns

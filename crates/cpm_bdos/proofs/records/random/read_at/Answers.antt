@@ -1,7 +1,7 @@
 use Rattle.std.proofs.Common.{◌≡◌, Err, true, ap, subst, sym, ◌∙◌}
-use Rattle.cpm_directory.specs.Letters.{letters}
-use Rattle.cpm_fcb.specs.Fcbs.{fcb_at, file_judged, name_of, random_of}
-use Rattle.cpm_fcb.specs.Stops.{Ends}
+use Rattle.cpm_image.specs.Directory.Letters.{letters}
+use Rattle.cpm_disk.specs.Control.Fcbs.{fcb_at, file_judged, name_of, random_of}
+use Rattle.cpm_disk.specs.Control.Stops.{Ends}
 use Rattle.cpm_bdos.specs.Records.Random.{can_have_record, refused_random_read}
 use Rattle.cpm_bdos.proofs.Same.{read_as}
 use Rattle.cpm_bdos.proofs.records.random.read_at.Goals as goal

@@ -1,7 +1,7 @@
 use Rattle.std.proofs.Common.{◌≡◌, Ok, Err, true, ap, subst, sym, ◌∙◌}
-use Rattle.cpm_directory.specs.Letters.{letters}
-use Rattle.cpm_fcb.specs.Fcbs.{fcb_at, file_judged, name_of, random_of}
-use Rattle.cpm_fcb.specs.Stops.{Ends, done}
+use Rattle.cpm_image.specs.Directory.Letters.{letters}
+use Rattle.cpm_disk.specs.Control.Fcbs.{fcb_at, file_judged, name_of, random_of}
+use Rattle.cpm_disk.specs.Control.Stops.{Ends, done}
 use Rattle.cpm_bdos.specs.Records.Random.{can_have_record, refused_random_write, with_place_of}
 use Rattle.cpm_bdos.proofs.Same.{entered_as, written_as}
 use Rattle.cpm_bdos.proofs.records.random.write_at.Goals as goal

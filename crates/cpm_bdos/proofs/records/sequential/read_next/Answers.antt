@@ -1,6 +1,6 @@
 use Rattle.std.proofs.Common.{◌≡◌, Some, Err, ap, subst, sym, ◌≤◌, ◌∙◌}
-use Rattle.cpm_directory.specs.Letters.{letters}
-use Rattle.cpm_fcb.specs.Fcbs.{current_of, fcb_at, name_of}
+use Rattle.cpm_image.specs.Directory.Letters.{letters}
+use Rattle.cpm_disk.specs.Control.Fcbs.{current_of, fcb_at, name_of}
 use Rattle.cpm_bdos.specs.Records.Places.{place_of, record_at, turned}
 use Rattle.cpm_bdos.specs.Records.Sequential.{sequential_judged}
 use Rattle.cpm_bdos.proofs.Same.{read_as}

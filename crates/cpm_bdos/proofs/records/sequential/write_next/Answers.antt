@@ -1,7 +1,7 @@
 use Rattle.std.proofs.Common.{◌≡◌, Ok, Some, Err, ap, subst, sym, ◌≤◌, ◌∙◌}
-use Rattle.cpm_directory.specs.Letters.{letters}
-use Rattle.cpm_fcb.specs.Fcbs.{current_of, fcb_at, name_of}
-use Rattle.cpm_fcb.specs.Stops.{done}
+use Rattle.cpm_image.specs.Directory.Letters.{letters}
+use Rattle.cpm_disk.specs.Control.Fcbs.{current_of, fcb_at, name_of}
+use Rattle.cpm_disk.specs.Control.Stops.{done}
 use Rattle.cpm_bdos.specs.Records.Places.{place_of, record_at, turned}
 use Rattle.cpm_bdos.specs.Records.Sequential.{sequential_judged, with_place}
 use Rattle.cpm_bdos.proofs.Same.{entered_as, written_as}

@@ -1,6 +1,6 @@
 use Rattle.std.proofs.Common.{◌≡◌, true, Err, Ok, ap, refl, slice_set, subst, sym, ◌∙◌}
-use Rattle.cpm_directory.specs.declared.fault.DiskFault.TheVariants.{Fault}
-use Rattle.cpm_directory.specs.Rules.{IsSound}
+use Rattle.cpm_image.specs.declared.directory.fault.DiskFault.TheVariants.{Fault}
+use Rattle.cpm_image.specs.Directory.Rules.{IsSound}
 use Rattle.cpm_disk.specs.Kept.{IsGoodPut}
 use Rattle.cpm_disk.specs.Steps.{creation}
 use Rattle.cpm_disk.specs.Calls.{Changed}

@@ -1,7 +1,7 @@
 use Rattle.std.proofs.Common.{◌≡◌, true, Err, Ok, ap, length, inr, refl, subst, sym, ◌∙◌}
-use Rattle.cpm_directory.specs.declared.fault.DiskFault.TheVariants.{Fault}
-use Rattle.cpm_directory.specs.Entries.{at}
-use Rattle.cpm_directory.specs.Rules.{IsSound}
+use Rattle.cpm_image.specs.declared.directory.fault.DiskFault.TheVariants.{Fault}
+use Rattle.cpm_image.specs.Directory.Entries.{at}
+use Rattle.cpm_image.specs.Directory.Rules.{IsSound}
 use Rattle.cpm_disk.specs.Kept.{StaysSound}
 use Rattle.cpm_disk.specs.Steps.{erasure, after_erasure}
 use Rattle.cpm_disk.specs.Calls.{Changed, PartlyChanged}

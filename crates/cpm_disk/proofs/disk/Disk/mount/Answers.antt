@@ -1,5 +1,5 @@
 use Rattle.std.proofs.Common.{◌≡◌, ap, length, subst, sym, ◌∙◌}
-use Rattle.cpm_directory.specs.Rules.{IsSound}
+use Rattle.cpm_image.specs.Directory.Rules.{IsSound}
 use Rattle.cpm_disk.specs.Image.{directory}
 use Rattle.cpm_disk.proofs.Places.{length_directory}
 use Rattle.cpm_disk.proofs.disk.Disk.mount.Goals as goal

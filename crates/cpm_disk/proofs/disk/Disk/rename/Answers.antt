@@ -1,6 +1,6 @@
 use Rattle.std.proofs.Common.{◌≡◌, true, Err, Ok, ap, length, refl, subst, sym, ◌∙◌}
-use Rattle.cpm_directory.specs.declared.fault.DiskFault.TheVariants.{Fault}
-use Rattle.cpm_directory.specs.Rules.{IsSound}
+use Rattle.cpm_image.specs.declared.directory.fault.DiskFault.TheVariants.{Fault}
+use Rattle.cpm_image.specs.Directory.Rules.{IsSound}
 use Rattle.cpm_disk.specs.Kept.{StaysSound}
 use Rattle.cpm_disk.specs.Steps.{renaming, after_renaming}
 use Rattle.cpm_disk.specs.Calls.{Changed, PartlyChanged}

@@ -1,6 +1,6 @@
 use Rattle.std.proofs.Common.{◌≡◌, ◌⊎◌, true, Err, Ok, ap, length, refl, slice_set, subst, sym, ◌∙◌}
 use Rattle.std.proofs.lemmas.Result.{err_from_is_err_and}
-use Rattle.cpm_directory.specs.declared.fault.DiskFault.TheVariants.{Fault}
+use Rattle.cpm_image.specs.declared.directory.fault.DiskFault.TheVariants.{Fault}
 use Rattle.cpm_disk.specs.Kept.{IsKeptBy}
 use Rattle.cpm_disk.specs.Steps.{writing}
 use Rattle.cpm_disk.specs.Files.{HasRecord, HasSameRecords, IsFile, OthersAreSame}

@@ -17,7 +17,7 @@ returns-in-Turn c = λ stops old before listed printed count.
 
 pub returns-in-Run : goal.returns-in-Run
 returns-in-Run c = λ stops old before listed printed count.
-    subst (λ (it : Command). IfOk c.moved-in-Run.result (λ text. Says it stops c.args.told old c.args.self.now.history c.args.self.now.labels c.args.self.now.listing.now text.items)) (sym c.in-Run.is) (c.moved-in-Run.ensures old before printed count)
+    subst (λ (it : Command). IfOk c.ran.result (λ text. Says it stops c.args.told old c.args.self.now.history c.args.self.now.labels c.args.self.now.listing.now text.items)) (sym c.in-Run.is) (c.ran.ensures old before printed count)
 
 pub returns-in-Next : goal.returns-in-Next
 returns-in-Next c = λ stops old before listed printed count.

@@ -1,6 +1,6 @@
 use Rattle.std.proofs.Common.{IsAscii, ◌++◌, ◌==◌, ◌∙◌, ap, ap₂, codes, drop, length, not, subst, sym, take}
 use Rattle.std.specs.Fmt.{HasWritten}
-use Rattle.cpm_directory.specs.Letters.{letters}
+use Rattle.cpm_image.specs.Directory.Letters.{letters}
 use Rattle.z80dev_disk.specs.Names.{trimmed, when}
 use Rattle.z80dev_disk.proofs.Lists.{last_three}
 use Rattle.z80dev_disk.proofs.Shown_names.{ascii_front, ascii_kind}

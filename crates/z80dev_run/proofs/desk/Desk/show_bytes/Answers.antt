@@ -1,8 +1,8 @@
 use Rattle.std.proofs.Common.{◌∙◌, ap, refl, subst, sym, ◌++◌}
 use Rattle.std.specs.Io.KnownBytes.{Appends}
 use denote.Enum.Bare.{same_false}
-use Rattle.screen_codes.specs.contracts.codes.Codes.{the_type}
-use Rattle.screen_codes.specs.Codes.{screen_text}
+use Rattle.cpm_console.specs.contracts.codes.Codes.{the_type}
+use Rattle.cpm_console.specs.Codes.{screen_text}
 use Rattle.z80dev_run.proofs.desk.Desk.show_bytes.Goals as goal
 use Rattle.z80dev_run.proofs.desk.Desk.show_bytes.Goals.{in-Ok-print, in-Err-print}
 use Rattle.z80dev_run.proofs.Printed.{shows_bytes}

@@ -1,7 +1,7 @@
 use Rattle.std.proofs.Common.{◌≡◌, ◌+◌, ◌<◌, ℕ, List, map, take, length, slice_index, sym, ap, subst, ◌∙◌, arith}
 use Rattle.std.proofs.lemmas.List.{length-map, take_all}
 use Rattle.relax.specs.Choice.{Choice, chosen}
-use Rattle.zmo_module.specs.Modules.{Module, module_of, statement_of}
+use Rattle.zmo_object.specs.Modules.{Module, module_of, statement_of}
 use Rattle.zlink.specs.declared.program.joining.Links.{Links}
 use Rattle.zlink.specs.Program.Laws.{part_at, statement_count}
 use Rattle.zlink.specs.Program.Parts.{parts, all_publics}

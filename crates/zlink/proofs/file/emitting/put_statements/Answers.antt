@@ -1,6 +1,6 @@
 use Rattle.std.proofs.Common.{ℕ, ◌++◌, List, slice_index, ap, ◌∙◌, arith, append_assoc}
 use Rattle.relax.specs.Choice.{chosen}
-use Rattle.zmo_module.specs.Modules.{ModuleStatement}
+use Rattle.zmo_object.specs.Modules.{ModuleStatement}
 use Rattle.zlink.specs.Private.Pieces.{IsSizedPiece}
 use Rattle.zlink.proofs.Files.Laid.{laid-step}
 use Rattle.zlink.proofs.file.emitting.put_statements.Goals as goal

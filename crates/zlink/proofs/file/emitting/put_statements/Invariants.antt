@@ -1,6 +1,6 @@
 use Rattle.std.proofs.Common.{map, slice_index, take}
 use Rattle.relax.specs.Choice.{chosen}
-use Rattle.zmo_module.specs.Modules.{statement_of}
+use Rattle.zmo_object.specs.Modules.{statement_of}
 use Rattle.zlink.specs.Private.Pieces.{Appends, AreLaid, IsSizedPiece}
 use Rattle.zlink.proofs.file.emitting.put_statements.Given as goal
 

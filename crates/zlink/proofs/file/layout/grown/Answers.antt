@@ -1,7 +1,7 @@
 use Rattle.std.proofs.Common.{◌≡◌, ◌+◌, ◌++◌, map, length, sym, ap, ◌∙◌, arith}
 use Rattle.std.proofs.lemmas.List.{take_all}
 use Rattle.relax.specs.Choice.{chosen}
-use Rattle.zmo_module.specs.Modules.{module_of, statement_of}
+use Rattle.zmo_object.specs.Modules.{module_of, statement_of}
 use Rattle.zlink.specs.Private.Marked.{marked_from}
 use Rattle.zlink.proofs.Files.Growing.{count-more, front-fits, grown-is, modules-step, statements_in}
 use Rattle.zlink.proofs.file.layout.grown.Goals as goal

@@ -1,6 +1,6 @@
 use Rattle.std.proofs.Common.{◌≡◌, length, map, take}
 use Rattle.relax.specs.Choice.{chosen}
-use Rattle.zmo_module.specs.Modules.{module_of}
+use Rattle.zmo_object.specs.Modules.{module_of}
 use Rattle.zlink.specs.Private.Marked.{marked_from}
 use Rattle.zlink.proofs.Files.Growing.{statements_in}
 use Rattle.zlink.proofs.file.layout.grown.Given as goal

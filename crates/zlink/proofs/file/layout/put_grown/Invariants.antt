@@ -1,6 +1,6 @@
 use Rattle.std.proofs.Common.{◌≡◌, ◌++◌, map, take}
 use Rattle.relax.specs.Choice.{chosen}
-use Rattle.zmo_module.specs.Modules.{statement_of}
+use Rattle.zmo_object.specs.Modules.{statement_of}
 use Rattle.zlink.specs.Private.Marked.{marked_from}
 use Rattle.zlink.proofs.file.layout.put_grown.Given as goal
 

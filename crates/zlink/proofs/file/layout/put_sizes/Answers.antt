@@ -1,5 +1,5 @@
 use Rattle.std.proofs.Common.{◌+◌, length, vec_len, arith}
-use Rattle.zmo_module.specs.Modules.{statement_of}
+use Rattle.zmo_object.specs.Modules.{statement_of}
 use Rattle.zlink.specs.Private.Refs.{IsSizable}
 use Rattle.zlink.proofs.Files.Elements.{element}
 use Rattle.zlink.proofs.file.layout.put_sizes.Goals as goal

@@ -1,5 +1,5 @@
 use Rattle.std.proofs.Common.{◌≡◌, ◌++◌, length, map, take}
-use Rattle.zmo_module.specs.Modules.{statement_of}
+use Rattle.zmo_object.specs.Modules.{statement_of}
 use Rattle.zlink.specs.File.Objects.{sized_by}
 use Rattle.zlink.specs.Private.Refs.{stands_by}
 use Rattle.zlink.proofs.file.layout.put_sizes.Given as goal

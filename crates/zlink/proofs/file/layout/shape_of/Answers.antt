@@ -1,7 +1,7 @@
 use Rattle.std.proofs.Common.{◌+◌, All, length, map, vec_len, sym, ap, subst, ◌∙◌, arith}
 use Rattle.std.proofs.lemmas.List.{length-map}
 use Rattle.relax.specs.Choice.{IsShape}
-use Rattle.zmo_module.specs.Modules.{module_of, statement_of}
+use Rattle.zmo_object.specs.Modules.{module_of, statement_of}
 use Rattle.zlink.specs.Program.Whole.{program}
 use Rattle.zlink.specs.File.Objects.{placed_shape}
 use Rattle.zlink.specs.Private.Refs.{IsSizable}

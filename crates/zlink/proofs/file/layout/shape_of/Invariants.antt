@@ -1,6 +1,6 @@
 use Rattle.std.proofs.Common.{◌≡◌, map, take}
 use Rattle.std.specs.List.{flat_map}
-use Rattle.zmo_module.specs.Modules.{module_of}
+use Rattle.zmo_object.specs.Modules.{module_of}
 use Rattle.zlink.specs.Program.Parts.{parts, all_publics}
 use Rattle.zlink.specs.Program.Whole.{placed_statements}
 use Rattle.zlink.specs.File.Objects.{placed_shape}

@@ -1,7 +1,7 @@
 use Rattle.std.proofs.Common.{◌≡◌, ℕ, ◌+◌, ◌++◌, ◌≤◌, length, slice_index, take, drop, ap, ◌∙◌, arith}
 use Rattle.asm_stmt.specs.Cells.{written}
-use Rattle.asm_statements.specs.Program.Linked.{fill_one}
-use Rattle.zmo_module.specs.Holes.{width_size}
+use Rattle.asm_module.specs.Program.Linked.{fill_one}
+use Rattle.zmo_object.specs.Holes.{width_size}
 use Rattle.zlink.proofs.Files.Filled.{filled-more, hole-within, length-fill_one}
 use Rattle.zlink.proofs.file.piece.fill.Goals as goal
 

@@ -1,5 +1,5 @@
 use Rattle.std.proofs.Common.{◌≡◌, length, slice_index, take}
-use Rattle.asm_statements.specs.Program.Linked.{filled}
+use Rattle.asm_module.specs.Program.Linked.{filled}
 use Rattle.zlink.proofs.file.piece.fill.Given as goal
 
 -- the fix-ups before this one are filled

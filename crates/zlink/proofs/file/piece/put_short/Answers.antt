@@ -4,7 +4,7 @@ use Rattle.z80_instr.specs.Table.{canonical}
 use Rattle.z80_instr.specs.Codes.{Codes}
 use Rattle.z80_instr.specs.declared.Branch.{Branch}
 use Rattle.z80_instr.specs.declared.Branch.TheVariants.{Relative, CountDown}
-use Rattle.asm_statements.specs.Program.Pieces.{short_jump}
+use Rattle.asm_module.specs.Program.Pieces.{short_jump}
 use Rattle.zlink.proofs.file.piece.put_short.Goals as goal
 
 -- a short jump takes two bytes

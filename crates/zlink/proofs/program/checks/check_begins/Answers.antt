@@ -1,5 +1,5 @@
 use Rattle.std.proofs.Common.{ℕ, ◌+◌, length}
-use Rattle.zmo_module.specs.Modules.{module_of}
+use Rattle.zmo_object.specs.Modules.{module_of}
 use Rattle.zlink.specs.Program.Faults.{begins_late}
 use Rattle.zlink.proofs.Programs.Going_on.{Judging, first_is_not_late, other_is_not_late, passes}
 use Rattle.zlink.proofs.program.checks.check_begins.Goals as goal

@@ -1,5 +1,5 @@
 use Rattle.std.proofs.Common.{◌+◌, ◌≡◌, ◌∙◌, sym, subst, length, map, arith}
-use Rattle.zmo_module.specs.Modules.{module_of}
+use Rattle.zmo_object.specs.Modules.{module_of}
 use Rattle.zlink.proofs.Programs.Going_on.{Reached, left, reached_next}
 use Rattle.zlink.proofs.program.checks.check_count.Goals as goal
 

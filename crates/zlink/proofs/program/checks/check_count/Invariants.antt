@@ -1,6 +1,6 @@
 use Rattle.std.proofs.Common.{◌≤◌, map}
 use Rattle.common.specs.declared.limits.TheConstants.{MOST_STATEMENTS}
-use Rattle.zmo_module.specs.Modules.{module_of}
+use Rattle.zmo_object.specs.Modules.{module_of}
 use Rattle.zlink.proofs.Programs.Going_on.{Reached, left}
 use Rattle.zlink.proofs.program.checks.check_count.Given as goal
 

@@ -1,5 +1,5 @@
 use Rattle.std.proofs.Common.{◌+◌, ◌≡◌, ◌∙◌, sym, subst, length}
-use Rattle.zmo_module.specs.Modules.{module_of}
+use Rattle.zmo_object.specs.Modules.{module_of}
 use Rattle.zlink.specs.Program.Faults.{enters_late}
 use Rattle.zlink.specs.Private.Joining.{part}
 use Rattle.zlink.proofs.Programs.Going_on.{Judging, none_refused, passes, rules_there}

@@ -1,5 +1,5 @@
 use Rattle.std.proofs.Common.{◌∙◌, ap, sym}
-use Rattle.zmo_module.specs.Modules.{module_of}
+use Rattle.zmo_object.specs.Modules.{module_of}
 use Rattle.zlink.specs.Program.Parts.{public_found}
 use Rattle.zlink.specs.Private.Joining.{part}
 use Rattle.zlink.proofs.Programs.Names.{external_there, resolving_next, resolving_stops}

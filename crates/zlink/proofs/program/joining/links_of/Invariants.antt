@@ -1,4 +1,4 @@
-use Rattle.zmo_module.specs.Modules.{module_of}
+use Rattle.zmo_object.specs.Modules.{module_of}
 use Rattle.zlink.specs.Private.Joining.{part}
 use Rattle.zlink.proofs.Programs.Names.{Resolving}
 use Rattle.zlink.proofs.program.joining.links_of.Given as goal

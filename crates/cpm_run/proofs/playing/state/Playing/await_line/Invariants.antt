@@ -1,7 +1,7 @@
 use Rattle.std.proofs.Common.{◌≡◌, ◌≤◌, ◌<◌, ◌+◌, [], ℕ, Some}
 use Rattle.cpm_run.specs.Looks.{Attention, waits_after}
 use Rattle.cpm_run.specs.Play.{PlayState}
-use Rattle.cpm_run.specs.Seat.{Seat}
+use Rattle.cpm_console.specs.Seat.{Seat}
 use Rattle.cpm_run.specs.Private.Playing.{BeginsEcho, MakesNoStep, Waits, Watched}
 use Rattle.cpm_run.proofs.playing.state.Playing.await_line.Given as goal
 

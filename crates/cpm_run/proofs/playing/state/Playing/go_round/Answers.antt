@@ -68,26 +68,26 @@ returns-in-Some-clause-looks g c = λ start before rests.
 pub returns-then-is_finished-clause-looks : goal.returns-then-is_finished-clause-looks
 returns-then-is_finished-clause-looks g c = λ start before rests.
     let made = c.compute.ensures.looks start rests.watched.shown rests.so_far rests.watched.attends rests.here (let most = c.min.ensures in let lately = rests.lately in let last = rests.watched.last in omega (arith, most, lately, last)) rests.held in
-    let computed = kept_looking _ _ c.compute.result start before _ c.args.self.now c.compute.new.self rests.so_far rests.watched c.in_default.not-Some made c.compute.ensures.ahead c.compute.ensures.looked c.compute.ensures.least c.compute.ensures.ended in
+    let computed = kept_looking _ _ c.compute.result start before _ c.args.self.now c.compute.new.self rests.so_far rests.watched c.in_default.not-Some made c.compute.ensures.ahead c.compute.ensures.looked c.compute.ensures.least c.compute.ensures.allowance c.compute.ensures.ended in
     done _ _ why.Finished start before _ c.compute.new.self (after_step rests.so_far) (inl refl) computed (c.compute.ensures.ahead ∙ rests.none)
 
 pub returns-then-self-limit-clause-looks : goal.returns-then-self-limit-clause-looks
 returns-then-self-limit-clause-looks g c = λ start before rests.
     let made = c.compute.ensures.looks start rests.watched.shown rests.so_far rests.watched.attends rests.here (let most = c.min.ensures in let lately = rests.lately in let last = rests.watched.last in omega (arith, most, lately, last)) rests.held in
-    let computed = kept_looking _ _ c.compute.result start before _ c.args.self.now c.compute.new.self rests.so_far rests.watched c.in_default.not-Some made c.compute.ensures.ahead c.compute.ensures.looked c.compute.ensures.least c.compute.ensures.ended in
+    let computed = kept_looking _ _ c.compute.result start before _ c.args.self.now c.compute.new.self rests.so_far rests.watched c.in_default.not-Some made c.compute.ensures.ahead c.compute.ensures.looked c.compute.ensures.least c.compute.ensures.allowance c.compute.ensures.ended in
     done _ _ why.TurnLimit start before _ c.compute.new.self (after_step rests.so_far) (inr refl) computed (c.compute.ensures.ahead ∙ rests.none)
 
 pub returns-in-Err-clause-looks : goal.returns-in-Err-clause-looks
 returns-in-Err-clause-looks g c = λ start before rests.
     let made = c.compute.ensures.looks start rests.watched.shown rests.so_far rests.watched.attends rests.here (let most = c.min.ensures in let lately = rests.lately in let last = rests.watched.last in omega (arith, most, lately, last)) rests.held in
-    let computed = kept_looking _ _ c.compute.result start before _ c.args.self.now c.compute.new.self rests.so_far rests.watched c.in_default.not-Some made c.compute.ensures.ahead c.compute.ensures.looked c.compute.ensures.least c.compute.ensures.ended in
+    let computed = kept_looking _ _ c.compute.result start before _ c.args.self.now c.compute.new.self rests.so_far rests.watched c.in_default.not-Some made c.compute.ensures.ahead c.compute.ensures.looked c.compute.ensures.least c.compute.ensures.allowance c.compute.ensures.ended in
     let held = subst (λ (b : System _ Dialog). IfSome b.terminal.console.output (λ bytes. length bytes < 4096)) (sym c.compute.ensures.bdos) rests.held in
     c.in-Err.ensures.looks start before (after_step rests.so_far) computed refl held (c.compute.ensures.ahead ∙ rests.none)
 
 pub returns-in-Some-take_turn-clause-looks : goal.returns-in-Some-take_turn-clause-looks
 returns-in-Some-take_turn-clause-looks g c = λ start before rests.
     let made = c.compute.ensures.looks start rests.watched.shown rests.so_far rests.watched.attends rests.here (let most = c.min.ensures in let lately = rests.lately in let last = rests.watched.last in omega (arith, most, lately, last)) rests.held in
-    let computed = kept_looking _ _ c.compute.result start before _ c.args.self.now c.compute.new.self rests.so_far rests.watched c.in_default.not-Some made c.compute.ensures.ahead c.compute.ensures.looked c.compute.ensures.least c.compute.ensures.ended in
+    let computed = kept_looking _ _ c.compute.result start before _ c.args.self.now c.compute.new.self rests.so_far rests.watched c.in_default.not-Some made c.compute.ensures.ahead c.compute.ensures.looked c.compute.ensures.least c.compute.ensures.allowance c.compute.ensures.ended in
     let held = subst (λ (b : System _ Dialog). IfSome b.terminal.console.output (λ bytes. length bytes < 4096)) (sym c.compute.ensures.bdos) rests.held in
     let fit = c.in_default-attend.ensures.looks start before (after_step rests.so_far) computed refl held (c.compute.ensures.ahead ∙ rests.none) in
     done_by _ _ c.in-Some-take_turn.why start before _ c.attend.new.self c.take_turn.new.self fit.so_far fit.watched (c.in-Some-take_turn.ensures.looks start fit.watched.shown fit.so_far fit.watched.attends fit.may) c.take_turn.ensures.ahead c.take_turn.ensures.ended
@@ -96,10 +96,10 @@ returns-in-Some-take_turn-clause-looks g c = λ start before rests.
 pub returns-in-Ok-clause-looks : goal.returns-in-Ok-clause-looks
 returns-in-Ok-clause-looks g c = λ start before rests.
     let made = c.compute.ensures.looks start rests.watched.shown rests.so_far rests.watched.attends rests.here (let most = c.min.ensures in let lately = rests.lately in let last = rests.watched.last in omega (arith, most, lately, last)) rests.held in
-    let computed = kept_looking _ _ c.compute.result start before _ c.args.self.now c.compute.new.self rests.so_far rests.watched c.in_default.not-Some made c.compute.ensures.ahead c.compute.ensures.looked c.compute.ensures.least c.compute.ensures.ended in
+    let computed = kept_looking _ _ c.compute.result start before _ c.args.self.now c.compute.new.self rests.so_far rests.watched c.in_default.not-Some made c.compute.ensures.ahead c.compute.ensures.looked c.compute.ensures.least c.compute.ensures.allowance c.compute.ensures.ended in
     let held = subst (λ (b : System _ Dialog). IfSome b.terminal.console.output (λ bytes. length bytes < 4096)) (sym c.compute.ensures.bdos) rests.held in
     let fit = c.in_default-attend.ensures.looks start before (after_step rests.so_far) computed refl held (c.compute.ensures.ahead ∙ rests.none) in
-    let taken = kept_looking _ _ c.take_turn.result start before _ c.attend.new.self c.take_turn.new.self fit.so_far fit.watched c.in_default-take_turn.not-Some (c.take_turn.ensures.looks start fit.watched.shown fit.so_far fit.watched.attends fit.may) c.take_turn.ensures.ahead c.take_turn.ensures.looked (let t = c.take_turn.ensures.turns in omega (arith, t)) c.take_turn.ensures.ended in
+    let taken = kept_looking _ _ c.take_turn.result start before _ c.attend.new.self c.take_turn.new.self fit.so_far fit.watched c.in_default-take_turn.not-Some (c.take_turn.ensures.looks start fit.watched.shown fit.so_far fit.watched.attends fit.may) c.take_turn.ensures.ahead c.take_turn.ensures.looked (let t = c.take_turn.ensures.turns in omega (arith, t)) c.take_turn.ensures.allowance c.take_turn.ensures.ended in
     let shown = c.in-Ok.ensures.looks start before (after_step fit.so_far) taken
     (kept_put c.take_turn.result c.take_turn.new.self c.in_default-take_turn.not-Some (caught_up _ _ c.take_turn.result c.attend.new.self c.take_turn.new.self fit.ahead c.take_turn.ensures.ahead c.take_turn.ensures.turn)) in record {
       so_far = shown.0;
@@ -113,9 +113,9 @@ returns-in-Ok-clause-looks g c = λ start before rests.
 pub returns-in-Err-show_much-clause-looks : goal.returns-in-Err-show_much-clause-looks
 returns-in-Err-show_much-clause-looks g c = λ start before rests.
     let made = c.compute.ensures.looks start rests.watched.shown rests.so_far rests.watched.attends rests.here (let most = c.min.ensures in let lately = rests.lately in let last = rests.watched.last in omega (arith, most, lately, last)) rests.held in
-    let computed = kept_looking _ _ c.compute.result start before _ c.args.self.now c.compute.new.self rests.so_far rests.watched c.in_default.not-Some made c.compute.ensures.ahead c.compute.ensures.looked c.compute.ensures.least c.compute.ensures.ended in
+    let computed = kept_looking _ _ c.compute.result start before _ c.args.self.now c.compute.new.self rests.so_far rests.watched c.in_default.not-Some made c.compute.ensures.ahead c.compute.ensures.looked c.compute.ensures.least c.compute.ensures.allowance c.compute.ensures.ended in
     let held = subst (λ (b : System _ Dialog). IfSome b.terminal.console.output (λ bytes. length bytes < 4096)) (sym c.compute.ensures.bdos) rests.held in
     let fit = c.in_default-attend.ensures.looks start before (after_step rests.so_far) computed refl held (c.compute.ensures.ahead ∙ rests.none) in
-    let taken = kept_looking _ _ c.take_turn.result start before _ c.attend.new.self c.take_turn.new.self fit.so_far fit.watched c.in_default-take_turn.not-Some (c.take_turn.ensures.looks start fit.watched.shown fit.so_far fit.watched.attends fit.may) c.take_turn.ensures.ahead c.take_turn.ensures.looked (let t = c.take_turn.ensures.turns in omega (arith, t)) c.take_turn.ensures.ended in
+    let taken = kept_looking _ _ c.take_turn.result start before _ c.attend.new.self c.take_turn.new.self fit.so_far fit.watched c.in_default-take_turn.not-Some (c.take_turn.ensures.looks start fit.watched.shown fit.so_far fit.watched.attends fit.may) c.take_turn.ensures.ahead c.take_turn.ensures.looked (let t = c.take_turn.ensures.turns in omega (arith, t)) c.take_turn.ensures.allowance c.take_turn.ensures.ended in
     c.in-Err-show_much.ensures.looks start before (after_step fit.so_far) taken
     (kept_put c.take_turn.result c.take_turn.new.self c.in_default-take_turn.not-Some (caught_up _ _ c.take_turn.result c.attend.new.self c.take_turn.new.self fit.ahead c.take_turn.ensures.ahead c.take_turn.ensures.turn))

@@ -33,5 +33,5 @@ returns-clause-looks g c = λ start before a watched empty due.
     let shown = c.in_ok-show_all.ensures in
     let now = shown.looks start before a watched (inl empty) in
     let seat = g.K.Station.seat c.show_all.new.station in
-    let still = still_due _ _ c.args.patience start before (g.K.Station.seat c.args.station.now) seat c.args.self.now c.show_all.new.self a now.0 c.requires.quick watched now.1 shown.still.cpu shown.still.turns shown.still.looked now.2 due in
+    let still = still_due _ _ c.args.patience start before (g.K.Station.seat c.args.station.now) seat c.args.self.now c.show_all.new.self a now.0 c.requires.quick watched now.1 shown.still.cpu shown.still.turns shown.still.looked shown.less now.2 due in
     look_after _ _ c.args.patience c.listen.result start before _ _ a now.0 now.3 (c.listen.ensures.looks start before now.0 now.1 (quick_look _ _ c.args.patience start before seat c.show_all.new.self now.0 c.requires.quick now.1 shown.all shown.ahead still))

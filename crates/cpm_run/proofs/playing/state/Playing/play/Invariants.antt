@@ -1,6 +1,6 @@
 use Rattle.std.proofs.Common.{◌≤◌, ◌-◌}
 use Rattle.cpm_run.specs.Play.{PlayState}
-use Rattle.cpm_run.specs.Seat.{Seat}
+use Rattle.cpm_console.specs.Seat.{Seat}
 use Rattle.cpm_run.specs.Private.Playing.{Begins, Rests}
 use Rattle.cpm_run.proofs.playing.state.Playing.play.Given as goal
 

@@ -1,4 +1,4 @@
-use Rattle.std.proofs.Common.{◌++◌, Err, None, Ok, ap, inl, sym, subst}
+use Rattle.std.proofs.Common.{◌++◌, Err, None, Ok, ap, arith, inl, sym, subst}
 use Rattle.cpm_run.specs.Play.{Attends, PlaysOn}
 use Rattle.cpm_run.specs.Private.Playing.{state_of}
 use Rattle.cpm_run.specs.declared.playing.state.Playing.{Playing}
@@ -23,7 +23,13 @@ returns-in-Err-clause-so_far g c = λ start before stands. record {
 pub returns-in-Ok-clause-looks : goal.returns-in-Ok-clause-looks
 returns-in-Ok-clause-looks g c = λ start before a watched put.
     let rest = c.in-Ok.ensures.events in
-    showed_rest _ _ start before (g.K.Station.seat c.args.station.now) (g.K.Station.seat c.show.new.station) c.args.self.now c.show.new.self a rest.0 watched rest.1 c.in-Ok.ensures.cleared c.show.ensures.others.cpu c.show.ensures.others.memory c.show.ensures.others.turns c.show.ensures.others.arrivals c.show.ensures.others.looked c.show.ensures.others.ended c.in-Ok.ensures.rest.0 rest.2
+    showed_rest _ _ start before (g.K.Station.seat c.args.station.now) (g.K.Station.seat c.show.new.station) c.args.self.now c.show.new.self a rest.0 watched rest.1 c.in-Ok.ensures.cleared c.show.ensures.others.cpu c.show.ensures.others.memory c.show.ensures.others.turns c.show.ensures.others.arrivals c.show.ensures.others.looked (c.in-Ok.ensures.spent rest.0 rest.1) c.show.ensures.others.ended c.in-Ok.ensures.rest.0 rest.2
+
+pub returns-in-Ok-clause-less : goal.returns-in-Ok-clause-less
+returns-in-Ok-clause-less g c = let rest = c.in-Ok.ensures.events in let spent = c.in-Ok.ensures.spent rest.0 rest.1 in omega (arith, spent)
+
+pub returns-in-Err-clause-less : goal.returns-in-Err-clause-less
+returns-in-Err-clause-less g c = let same = ap (λ (p : Playing _). p.allowance) c.in-Err.ensures.failed in omega (arith, same)
 
 pub returns-in-Err-clause-looks : goal.returns-in-Err-clause-looks
 returns-in-Err-clause-looks g c = λ start before a watched put.

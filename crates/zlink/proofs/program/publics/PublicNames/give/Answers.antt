@@ -1,5 +1,5 @@
 use Rattle.std.proofs.Common.{◌≡◌, ◌<◌, ◌+◌, ◌++◌, ◌∷◌, ◌∙◌, [], true, None, get_or, is_some, length, not, ap, sym, subst}
-use Rattle.zmo_module.specs.Modules.{module_of}
+use Rattle.zmo_object.specs.Modules.{module_of}
 use Rattle.zlink.specs.Program.Parts.{public_found, label_at}
 use Rattle.zlink.specs.Private.Joining.{part}
 use Rattle.zlink.proofs.Programs.Names.{giving_next, giving_twice, label_there, none_from, turned}

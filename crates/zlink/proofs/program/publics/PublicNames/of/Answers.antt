@@ -1,6 +1,6 @@
 use Rattle.std.proofs.Common.{◌+◌, ◌≡◌, ◌∙◌, sym, subst, length, map}
 use Rattle.std.proofs.lemmas.Result.{err_from_is_err_and}
-use Rattle.zmo_module.specs.Modules.{module_of}
+use Rattle.zmo_object.specs.Modules.{module_of}
 use Rattle.zlink.specs.Program.Faults.{first_of}
 use Rattle.zlink.specs.Program.Parts.{parts}
 use Rattle.zlink.specs.Private.Joining.{clashes, once, part}

@@ -1,5 +1,0 @@
-use Rattle.asm_line.proofs.Rests.{last}
-use Rattle.asm_line.proofs.laws.rest_is_last.Goals as goal
-
-pub returns : goal.returns
-returns c = last

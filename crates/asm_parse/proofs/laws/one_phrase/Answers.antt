@@ -1,5 +1,0 @@
-use Rattle.asm_parse.proofs.Completeness as parsing
-use Rattle.asm_parse.proofs.laws.one_phrase.Goals as goal
-
-pub returns : goal.returns
-returns c = parsing.one_phrase

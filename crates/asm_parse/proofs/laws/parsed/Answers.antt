@@ -1,5 +1,0 @@
-use Rattle.asm_parse.proofs.Parsed.{is_parsed, only_parsed}
-use Rattle.asm_parse.proofs.laws.parsed.Goals as goal
-
-pub returns : goal.returns
-returns c = record { is = is_parsed; only = only_parsed }

@@ -1,5 +1,0 @@
-mod Layouts
-mod Module
-pub mod Program
-mod Rules
-mod Whole

@@ -1,6 +1,0 @@
-pub mod Breaks
-pub mod CertTexts
-pub mod ForcingLemmas
-pub mod Numbers
-pub mod SizesRead
-pub mod SizesTexts

@@ -1,7 +1,0 @@
-use Rattle.std.proofs.Common.{◌≡◌, ◌∷◌, map, take}
-use Rattle.certificate.specs.Lines.{lines_text}
-use Rattle.certificate.specs.Texts.{cert_header, forced_line}
-use Rattle.certificate.proofs.cert.print_cert.Given as goal
-
-abbrev pub invariant-loop-k : goal.invariant-loop-k
-invariant-loop-k l = l.text.items ≡ lines_text (cert_header ∷ map forced_line (take l.k-index l.cert.order.items))

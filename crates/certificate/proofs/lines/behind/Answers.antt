@@ -1,6 +1,0 @@
-use Rattle.std.proofs.Common.{eqb-true, eq-eqb}
-use Rattle.std.proofs.lemmas.Slice.Eq.{strip_prefix_is}
-use Rattle.certificate.proofs.lines.behind.Goals as goal
-
-pub returns : goal.returns
-returns c = strip_prefix_is (λ a b. (eqb-true a b, eq-eqb a b)) c.args.text.now c.args.header.now c.strip_prefix.result c.strip_prefix.ensures.cases

@@ -1,7 +1,0 @@
-use Rattle.std.proofs.Common.{◌≡◌, ◌∷◌, map, take}
-use Rattle.certificate.specs.Lines.{lines_text}
-use Rattle.certificate.specs.Texts.{sizes_header, statement_line}
-use Rattle.certificate.proofs.sizes.print_sizes.Given as goal
-
-abbrev pub invariant-loop-statement : goal.invariant-loop-statement
-invariant-loop-statement l = l.text.items ≡ lines_text (sizes_header ∷ map statement_line (take l.statement-index l.shape))

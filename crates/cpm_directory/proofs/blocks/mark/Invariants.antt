@@ -1,6 +1,0 @@
-use Rattle.cpm_directory.specs.Entries.{blocks_of}
-use Rattle.cpm_directory.proofs.Marks.{IsMarking}
-use Rattle.cpm_directory.proofs.blocks.mark.Given as goal
-
-abbrev pub invariant-loop-group : goal.invariant-loop-group
-invariant-loop-group l = IsMarking l.fn.marks l.marks (blocks_of l.kind l.entry) l.group l.own

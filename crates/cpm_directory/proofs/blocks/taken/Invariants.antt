@@ -1,5 +1,0 @@
-use Rattle.cpm_directory.proofs.TakenBlocks.{AreTaken}
-use Rattle.cpm_directory.proofs.blocks.taken.Given as goal
-
-abbrev pub invariant-loop-entry : goal.invariant-loop-entry
-invariant-loop-entry l = AreTaken l.kind l.marks l.entries l.entry-index

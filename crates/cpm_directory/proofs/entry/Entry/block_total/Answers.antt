@@ -1,8 +1,0 @@
-use Rattle.std.proofs.Common.{rules, ◌≡◌, length, ◌∙◌, sym}
-use Rattle.cpm_directory.proofs.Words.{length-numbers}
-use Rattle.cpm_directory.proofs.entry.Entry.block_total.Goals as goal
-
-pub returns-clause-total : goal.returns-clause-total
-returns-clause-total c =
-    let long : length c.args.self.now.blocks ≡ 16 = search rules in
-    c.entry_blocks.ensures ∙ sym (length-numbers c.args.kind c.args.self.now.blocks long)

@@ -1,6 +1,0 @@
-use Rattle.std.proofs.Common.{arith}
-use Rattle.cpm_directory.proofs.entry.with_letters.Goals as goal
-use Rattle.cpm_directory.proofs.Bytes.{taken}
-
-pub returns : goal.returns
-returns c = taken c.loop-i.invariant (omega arith) (omega arith)

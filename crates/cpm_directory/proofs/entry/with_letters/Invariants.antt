@@ -1,5 +1,0 @@
-use Rattle.cpm_directory.proofs.Bytes.{IsRenamed}
-use Rattle.cpm_directory.proofs.entry.with_letters.Given as goal
-
-abbrev pub invariant-loop-i : goal.invariant-loop-i
-invariant-loop-i l = IsRenamed l.fn.name l.old l.byte-items l.i

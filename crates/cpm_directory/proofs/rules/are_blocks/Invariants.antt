@@ -1,8 +1,0 @@
-use Rattle.std.proofs.Common.{ℕ, ◌<◌}
-use Rattle.cpm_directory.specs.Entries.{block}
-use Rattle.cpm_directory.specs.Rules.{IsBlock}
-use Rattle.cpm_directory.proofs.rules.are_blocks.Given as goal
-
--- the blocks so far are blocks of files, or 0
-abbrev pub invariant-loop-group : goal.invariant-loop-group
-invariant-loop-group l = (i : ℕ) → i < l.group → IsBlock l.kind (block l.kind l.entry i)

@@ -1,5 +1,0 @@
-use Rattle.cpm_directory.proofs.AllFaults.{AreListed}
-use Rattle.cpm_directory.proofs.rules.faults.Given as goal
-
-abbrev pub invariant-loop-number : goal.invariant-loop-number
-invariant-loop-number l = AreListed l.kind l.entries l.marks l.broken.items l.number

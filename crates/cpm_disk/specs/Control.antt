@@ -1,0 +1,5 @@
+pub mod Bytes
+pub mod Fcbs
+pub mod Files
+pub mod Stops
+pub mod Words

@@ -1,4 +1,0 @@
-pub mod Bytes
-pub mod Stops
-pub mod Fcbs
-pub mod Files

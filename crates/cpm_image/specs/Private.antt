@@ -1,0 +1,3 @@
+-- Definitions that only private contracts use, so no public promise depends on them.
+pub mod Files
+pub mod Marks

@@ -1,6 +1,0 @@
-use Rattle.std.proofs.Common.{◌≡◌, map, take}
-use Rattle.z80dev_disk.specs.Text.{cpm_text}
-use Rattle.disk_jobs.proofs.changing.all_as_put.Given as goal
-
-abbrev pub invariant-loop-file : goal.invariant-loop-file
-invariant-loop-file l = map (λ bytes. bytes.items) l.all.items ≡ take l.file-index (map (λ file. cpm_text file.items) l.file-items)

@@ -1,9 +1,0 @@
-use Rattle.std.proofs.Common.{◌≡◌, map, string_bytes, take}
-use Rattle.disk_jobs.specs.Disks.{path_in}
-use Rattle.disk_jobs.specs.Private.Images.{AreInto}
-use Rattle.disk_jobs.proofs.getting.write_into.Given as goal
-
-abbrev pub invariant-loop-number : goal.invariant-loop-number
-invariant-loop-number g l =
-    AreInto l.folder (take l.number l.gotten) (g.F.Files.folder l.fn.files) (g.F.Files.folder l.files)
-    × (map string_bytes l.paths.items ≡ map (λ x. (path_in l.folder x).0) l.gotten)

@@ -1,5 +1,0 @@
-use Rattle.disk_jobs.proofs.Images.{otherwise}
-use Rattle.disk_jobs.proofs.listing.done_with.Goals as goal
-
-pub returns-in_default : goal.returns-in_default
-returns-in_default c = otherwise c.args.end c.args.line c.in_default.not-Done

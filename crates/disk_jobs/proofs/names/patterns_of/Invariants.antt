@@ -1,7 +1,0 @@
-use Rattle.std.proofs.Common.{map, take}
-use Rattle.z80dev_disk.specs.Words.{pattern_of}
-use Rattle.disk_jobs.specs.Private.Names.{AreNamed}
-use Rattle.disk_jobs.proofs.names.patterns_of.Given as goal
-
-abbrev pub invariant-loop-word : goal.invariant-loop-word
-invariant-loop-word l = AreNamed pattern_of (take l.word-index (map (λ w. w.now) l.words)) l.patterns.items

@@ -1,0 +1,14 @@
+pub mod Streams
+pub mod Private
+pub mod Answers
+pub mod Claims
+pub mod End
+pub mod Ending
+pub mod Files
+pub mod Finishing
+pub mod Memory
+pub mod Paths
+pub mod Reading
+pub mod Reporting
+pub mod SamePath
+pub mod World

@@ -1,8 +1,0 @@
--- Files whose paths may be given.
-use Rattle.std.proofs.Common.{◌≡◌, ℕ, Bor, List, Option, Some, Vec, refl, subst, sym}
-use Rattle.std.specs.Global.{Global}
-use Rattle.z80dev_finish.specs.Files.{Folder}
-use Rattle.job_steps.specs.Reading.{IsRead, IsReadIfGiven}
-
-pub read_given : (folder : Folder) (given : Option (Bor (List ℕ))) (path : Bor (List ℕ)) (text : Vec ℕ Global) → given ≡ Some path → IsRead folder path.now text.items → IsReadIfGiven folder given (Some text)
-read_given folder given path text is read = subst (λ g. IsReadIfGiven folder g (Some text)) (sym is) (text, refl, read)

@@ -1,4 +1,0 @@
-pub mod Carried
-pub mod Defined
-mod Given
-pub mod One_by_one

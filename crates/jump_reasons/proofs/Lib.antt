@@ -1,9 +1,0 @@
-mod Distinct
-mod Distance
-mod Because
-mod Members
-mod Described
-mod Near
-mod Explained
-mod Suffices
-mod Sites

@@ -1,9 +1,0 @@
-use Rattle.std.proofs.Common.{◌≡◌, ℕ, [], vec_len}
-use Rattle.jump_reasons.specs.Private.Gathered.{items_at}
-use Rattle.jump_reasons.proofs.gathering.empty_lists.Given as goal
-
-abbrev pub invariant-loop : goal.invariant-loop
-invariant-loop l = record {
-  len : vec_len l.lists ≡ l.counter;
-  each : (k : ℕ) → items_at l.lists.items k ≡ [];
-}

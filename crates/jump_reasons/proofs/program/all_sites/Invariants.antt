@@ -1,8 +1,0 @@
-use Rattle.std.proofs.Common.{◌≡◌, ◌++◌, map, drop}
-use Rattle.zmo_module.specs.Modules.{module_of}
-use Rattle.jump_reasons.specs.Programs.{sites_from}
-use Rattle.jump_reasons.proofs.program.all_sites.Given as goal
-
--- What is there and what the other modules add is all.
-abbrev pub invariant-loop-number : goal.invariant-loop-number
-invariant-loop-number l = l.sites.items ++ sites_from l.number (map module_of (drop l.number l.modules)) ≡ sites_from 0 (map module_of l.modules)

@@ -1,6 +1,0 @@
-use Rattle.std.proofs.Common.{◌≡◌, ◌++◌}
-use Rattle.jump_reasons.specs.Programs.{sites_of}
-use Rattle.jump_reasons.proofs.program.put_sites.Given as goal
-
-abbrev pub invariant-loop-statement : goal.invariant-loop-statement
-invariant-loop-statement l = l.sites.items ≡ l.initial.sites.items ++ sites_of l.number l.statement

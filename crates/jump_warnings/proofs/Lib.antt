@@ -1,3 +1,0 @@
-pub mod Nearest
-pub mod One_more
-pub mod Distances

@@ -1,8 +1,0 @@
-use Rattle.jump_warnings.proofs.Distances.{begins, ends}
-use Rattle.jump_warnings.proofs.laws.same_distance.Goals as goal
-
-pub returns-clause-begins : goal.returns-clause-begins
-returns-clause-begins c = begins
-
-pub returns-clause-ends : goal.returns-clause-ends
-returns-clause-ends c = ends

@@ -1,7 +1,0 @@
-use Rattle.std.proofs.Common.{◌≡◌, map, take}
-use Rattle.jump_warnings.specs.Jumps.{sizes_of}
-use Rattle.jump_warnings.specs.Private.Flat.{sited_of}
-use Rattle.jump_warnings.proofs.near.sizes_of.Given as goal
-
-abbrev pub invariant-loop-own : goal.invariant-loop-own
-invariant-loop-own l = l.sizes.items ≡ sizes_of (map sited_of (take l.own-index l.statements))

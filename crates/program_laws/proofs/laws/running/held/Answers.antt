@@ -1,5 +1,0 @@
-use Rattle.program_laws.proofs.laws.running.held.Goals as goal
-use Rattle.program_laws.proofs.Standing.{held, all_held}
-
-pub returns : goal.returns
-returns c = λ memory file room. (λ is i lt. held memory file 256 i is lt, λ each. all_held memory file 256 room each)

@@ -1,8 +1,0 @@
-use Rattle.program_laws.proofs.laws.running.jump_step.Goals as goal
-use Rattle.program_laws.proofs.Turning.{jumps, shorts}
-
-pub returns-clause-jump : goal.returns-clause-jump
-returns-clause-jump c = jumps c.turn_of_instruction.ensures
-
-pub returns-clause-short : goal.returns-clause-short
-returns-clause-short c = shorts c.turn_of_instruction.ensures

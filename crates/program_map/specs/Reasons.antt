@@ -1,0 +1,5 @@
+pub mod Distances
+pub mod Laws
+pub mod Programs
+pub mod Reasons
+pub mod Texts

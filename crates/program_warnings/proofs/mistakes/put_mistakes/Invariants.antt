@@ -1,8 +1,0 @@
-use Rattle.std.proofs.Common.{◌≡◌, ◌+◌, length, take, List, ℕ}
-use Rattle.std.specs.List.{AllZip, sum_by}
-use Rattle.program_warnings.specs.Counts.{HasWarnings}
-use Rattle.program_warnings.proofs.mistakes.put_mistakes.Given as goal
-
-abbrev pub invariant-loop-number : goal.invariant-loop-number
-invariant-loop-number l = (counts : List ℕ) × AllZip (λ s n. HasWarnings l.sources.before s.text.now n) (take l.number l.behind) counts
-    × (length l.reports.items ≡ length l.initial.reports.items + sum_by (λ n. n) counts)

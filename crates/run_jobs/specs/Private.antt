@@ -1,5 +1,0 @@
--- Only private contracts cite these definitions, so a reviewer may skip them.
-pub mod Steps
-pub mod Images
-pub mod Telling
-pub mod Debugging

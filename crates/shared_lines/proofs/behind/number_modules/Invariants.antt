@@ -1,8 +1,0 @@
-use Rattle.std.proofs.Common.{◌≡◌, ℕ, map}
-use Rattle.shared_lines.specs.Front.{CountsLines}
-use Rattle.shared_lines.proofs.Numbers.{front_changed}
-use Rattle.shared_lines.proofs.Modules.{own_pair, with_earlier}
-use Rattle.shared_lines.proofs.behind.number_modules.Given as goal
-
-abbrev pub invariant-loop-module : goal.invariant-loop-module
-invariant-loop-module l = (all : ℕ) → CountsLines l.lines all → map own_pair l.modules ≡ front_changed (with_earlier all) (map own_pair l.initial.modules) l.module-index

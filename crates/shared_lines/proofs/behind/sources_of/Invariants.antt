@@ -1,7 +1,0 @@
-use Rattle.std.proofs.Common.{take}
-use Rattle.std.specs.List.{AllZip}
-use Rattle.shared_lines.specs.Behind.{IsSource}
-use Rattle.shared_lines.proofs.behind.sources_of.Given as goal
-
-abbrev pub invariant-loop-file : goal.invariant-loop-file
-invariant-loop-file l = AllZip IsSource (take l.file-index l.files) l.sources.items

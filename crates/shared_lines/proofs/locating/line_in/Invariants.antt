@@ -1,6 +1,0 @@
-use Rattle.std.proofs.Common.{◌≡◌, drop}
-use Rattle.shared_lines.specs.Front.{line_in}
-use Rattle.shared_lines.proofs.locating.line_in.Given as goal
-
-abbrev pub invariant-loop-file : goal.invariant-loop-file
-invariant-loop-file l = line_in l.files l.path l.fn.line ≡ line_in (drop l.file-index l.files) l.path l.line

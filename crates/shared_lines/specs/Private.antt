@@ -1,2 +1,0 @@
--- Only private contracts cite these definitions, so a reviewer may skip them.
-pub mod Steps

@@ -1,4 +1,0 @@
-pub mod Stream
-pub mod Reading
-pub mod Writing
-pub mod Private

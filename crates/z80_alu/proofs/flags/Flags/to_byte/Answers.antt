@@ -1,6 +1,0 @@
-use Rattle.z80_alu.proofs.Masks.{from_bool_le}
-use Rattle.z80_alu.proofs.FlagByte.{packed}
-use Rattle.z80_alu.proofs.flags.Flags.to_byte.Goals as goal
-
-pub returns : goal.returns
-returns c = packed _ _ _ _ _ _ _ _ (from_bool_le _) (from_bool_le _) (from_bool_le _) (from_bool_le _) (from_bool_le _) (from_bool_le _) (from_bool_le _) (from_bool_le _)

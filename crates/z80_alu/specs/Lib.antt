@@ -1,5 +1,0 @@
-pub mod Types
-pub mod Flags
-pub mod Bytes
-pub mod Words
-pub mod Rotations

@@ -1,0 +1,10 @@
+use Rattle.std.proofs.Common.{◌∙◌, arith}
+use Rattle.z80_cpu.proofs.Masks.{from_bool_le, xor_xor_is_set}
+use Rattle.z80_cpu.proofs.Carries.{half_word_sum, half_word_difference}
+use Rattle.z80_cpu.proofs.alu.bits.half_carries_word.Goals as goal
+
+pub returns-clause-adding : goal.returns-clause-adding
+returns-clause-adding c = λ carry e. xor_xor_is_set c.args.a c.args.b c.args.value 12 ∙ half_word_sum _ _ _ _ (from_bool_le carry) e
+
+pub returns-clause-subtracting : goal.returns-clause-subtracting
+returns-clause-subtracting c = λ borrow e. xor_xor_is_set c.args.a c.args.b c.args.value 12 ∙ half_word_difference _ _ _ _ (from_bool_le borrow) (omega arith) (omega arith) e

@@ -1,0 +1,4 @@
+pub mod Flags
+pub mod Bytes
+pub mod Words
+pub mod Rotations

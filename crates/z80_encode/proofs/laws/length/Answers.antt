@@ -1,8 +1,0 @@
-use Rattle.z80_encode.proofs.Lengths.{bounds}
-use Rattle.z80_encode.proofs.laws.length.Goals as goal
-
-pub returns-clause-least : goal.returns-clause-least
-returns-clause-least c = λ instr. (bounds instr).0
-
-pub returns-clause-most : goal.returns-clause-most
-returns-clause-most c = λ instr. (bounds instr).1

@@ -1,0 +1,20 @@
+use Rattle.std.proofs.Common.{map, subst}
+use Rattle.z80dev_disk.specs.Changes.{IsErasedImage}
+use Rattle.z80dev_disk.specs.Words.{pattern_of}
+use Rattle.z80dev.proofs.Images.{several_changed, several_unclaimed, several_unnamed}
+use Rattle.z80dev.proofs.disks.changing.erase_files.Goals as goal
+
+pub returns-in_err-patterns : goal.returns-in_err-patterns
+returns-in_err-patterns g c = λ o.
+    several_unnamed pattern_of (map (λ word. word.now) c.args.words.now) c.args.target (λ patterns bytes. IsErasedImage bytes c.args.target.user patterns) (g.F.Files.folder c.args.files.now) o c.in_err-patterns.field-0.0
+    c.from_residual.result c.in_err-patterns.ensures c.from_residual.ensures.1
+
+pub returns-in_err-image : goal.returns-in_err-image
+returns-in_err-image g c = λ o.
+    several_unclaimed pattern_of (map (λ word. word.now) c.args.words.now) c.in_ok-patterns.patterns.items c.args.target (λ patterns bytes. IsErasedImage bytes c.args.target.user patterns) (g.F.Files.folder c.args.files.now) (g.F.Files.folder c.claim.new.files) o
+    c.in_err-image.field-0.0 c.from_residual-in_err-image.result c.in_ok-patterns.ensures c.in_err-image.ensures c.from_residual-in_err-image.ensures.1
+
+pub returns : goal.returns
+returns g c = λ o.
+    several_changed pattern_of (map (λ word. word.now) c.args.words.now) c.in_ok-patterns.patterns.items c.args.target (λ patterns bytes. IsErasedImage bytes c.args.target.user patterns) (g.F.Files.folder c.args.files.now) (g.F.Files.folder c.claim.new.files)
+    (g.F.Files.folder c.change.new.files) o c.in_ok-image.image c.erase-made.result c.change.result c.in_ok-patterns.ensures c.in_ok-image.ensures (subst (λ b. IsErasedImage b c.args.target.user c.in_ok-patterns.patterns.items c.erase-made.result) c.deref.ensures.value (subst (λ ps. IsErasedImage c.deref.result.now c.args.target.user ps c.erase-made.result) c.deref-2.ensures.value c.erase-made.ensures.answer)) c.change.ensures

@@ -1,5 +1,0 @@
-mod Parts
-pub mod Stored
-mod Told
-mod Newest
-mod MemoryStored

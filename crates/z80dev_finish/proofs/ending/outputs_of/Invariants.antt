@@ -1,7 +1,0 @@
-use Rattle.std.proofs.Common.{map, take}
-use Rattle.z80dev_finish.specs.Answers.{file_of}
-use Rattle.z80dev_finish.specs.Private.Steps.{AreOutputs}
-use Rattle.z80dev_finish.proofs.ending.outputs_of.Given as goal
-
-abbrev pub invariant-loop-file : goal.invariant-loop-file
-invariant-loop-file l = AreOutputs l.base (take l.file-index (map file_of l.new)) l.outputs.items

@@ -1,4 +1,0 @@
-pub mod Printed
-pub mod Listing
-pub mod Symbols
-pub mod Private

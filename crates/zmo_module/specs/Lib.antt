@@ -1,3 +1,0 @@
-pub mod Holes
-pub mod Modules
-pub mod Rules
