@@ -6,8 +6,8 @@ ghost use Rattle.zmo_object.specs.Rules.{IsModule};
 ghost use Rattle.asm_module.specs.Assembled.{IsAssembled, IsAssembledModule, States};
 
 use crate::fault::{AsmFault, of_macro};
+use crate::first_pass::first_pass;
 use crate::lines::assemble_lines;
-use crate::naming::first_pass;
 use crate::source::read_source;
 use std::alloc::Global;
 use zmo_object::Module;

@@ -11,13 +11,13 @@
 
 mod assembling;
 mod fault;
-mod last;
+mod first_pass;
 pub mod laws;
 mod line_fault;
 mod lines;
-mod listed;
-mod naming;
-mod passing_on;
+mod listing_end;
+mod module_names;
+mod name_set;
 mod reading;
 mod source;
 mod statements;
@@ -28,7 +28,7 @@ pub use asm_spell::StmtFault;
 pub use assembling::{Lines, assemble, assemble_listed, assemble_with};
 pub use fault::{AsmFault, Why};
 pub use line_fault::LineFault;
-pub use passing_on::{begins, entry_of, externals_of, labels_of, publics_of};
+pub use module_names::{begins, entry_of, externals_of, labels_of, publics_of};
 pub use source::{SourceText, read_source};
 pub use statements::{Outline, StateFault, Stated, emit, judge, outline_of, state_lines};
 pub use zmo_object::{Module, Statement};

@@ -14,7 +14,7 @@ ghost use Rattle.asm_module.specs.Assembled.{StatesLines};
 ghost use Rattle.asm_module.specs.Private.Steps.{AnswersLines, held};
 
 use crate::fault::{AsmFault, of_equ, of_state};
-use crate::passing_on::{begins, entry_of, externals_of, labels_of, publics_of};
+use crate::module_names::{begins, entry_of, externals_of, labels_of, publics_of};
 use crate::{emit, outline_of};
 use asm_names::{Layout, NameTable, SourceLine};
 use std::alloc::{AllocError, Global};

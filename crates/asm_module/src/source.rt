@@ -2,8 +2,8 @@
 
 ghost use Rattle.asm_module.specs.Reads.Source.{IsSourceText};
 
-use crate::last::last_listed;
 use crate::line_fault::LineFault;
+use crate::listing_end::last_listed;
 use crate::reading::{Reading, read_lines};
 use asm_macro::MacroFault;
 use asm_names::SourceLine;

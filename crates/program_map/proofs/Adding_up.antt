@@ -15,8 +15,8 @@ use Rattle.zlink.specs.File.Places.{ArePlaces}
 use Rattle.zlink.specs.Program.Laws.{statement_count}
 use Rattle.zlink.specs.Program.Parts.{ModulePart, all_publics, parts, parts_from}
 use Rattle.zlink.specs.Program.Whole.{Placed, program, stands}
-use Rattle.program_map.specs.declared.figures.Figures.{Figures}
-use Rattle.program_map.specs.declared.kind.Kind.{Kind}
+use Rattle.program_map.specs.declared.maps.figures.Figures.{Figures}
+use Rattle.program_map.specs.declared.maps.kind.Kind.{Kind}
 use Rattle.program_map.specs.Figures.{Ascend, is_relaxable_statement}
 use Rattle.program_map.specs.Map.{mapped_modules, mapped_part, program_map, summed}
 use Rattle.program_map.specs.Mapped.{MappedModule}

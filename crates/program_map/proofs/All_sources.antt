@@ -13,7 +13,7 @@ use Rattle.zlink.specs.Renumbered.{statement_in}
 use Rattle.zlink.specs.Sources.{Assembly, AreAssembled, IsAssembly, in_whole, modules_of, program_of}
 use Rattle.zlink.specs.declared.source.Source.{Source}
 use Rattle.zmo_object.specs.Modules.{Module}
-use Rattle.program_map.specs.declared.kind.Kind.{Kind}
+use Rattle.program_map.specs.declared.maps.kind.Kind.{Kind}
 use Rattle.program_map.specs.Kinds.{statement_kind, kinds}
 
 pub zip_at : {X Y : Type 0} (R : X → Y → Type 0) (xs : List X) (ys : List Y) (i : ℕ) (d : X) → AllZip R xs ys → i < length xs → (y : Y) × (y ≡ get_or ys i y) × (i < length ys) × R (get_or xs i d) y

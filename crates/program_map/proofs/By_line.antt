@@ -50,7 +50,7 @@ use Rattle.asm_module.specs.Source.{first_equ_line_fault, first_pass, source_fau
 use Rattle.zmo_object.specs.declared.module.hole.Hole.{Hole}
 use Rattle.zmo_object.specs.Modules as object
 use Rattle.zmo_object.specs.Modules.{ModuleStatement}
-use Rattle.program_map.specs.declared.kind.Kind.{Kind}
+use Rattle.program_map.specs.declared.maps.kind.Kind.{Kind}
 use Rattle.program_map.specs.Kinds.{statement_kind, kinds}
 use Rattle.program_map.specs.Private.Telling.{AreTold, body_kind, is_space_statement, line_kind, line_kinds, told}
 

@@ -12,7 +12,7 @@ use Rattle.zmo_object.specs.Modules.{Module, ModuleStatement}
 use Rattle.zlink.specs.File.Objects.{placed_shape, sized_by}
 use Rattle.zlink.specs.Program.Parts.{ModulePart, Publics, all_publics, parts, parts_from}
 use Rattle.zlink.specs.Program.Whole.{Placed, placed_statements, program, stands}
-use Rattle.program_map.specs.declared.kind.Kind.{Kind}
+use Rattle.program_map.specs.declared.maps.kind.Kind.{Kind}
 use Rattle.program_map.specs.Figures.{CountedStatement, counted_statement, is_relaxable_statement, relaxables}
 use Rattle.program_map.specs.Map.{mapped_modules, mapped_part, summed}
 use Rattle.program_map.specs.Mapped.{MappedModule}

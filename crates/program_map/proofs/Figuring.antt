@@ -5,8 +5,8 @@ use Rattle.std.specs.List.{enumerate_from, sum_by}
 use Rattle.std.proofs.lemmas.List.{map-append, take_more}
 use Rattle.std.proofs.lemmas.List.Sums.{sum_by_push, sum_by-append}
 use Rattle.zmo_object.specs.Modules.{ModuleStatement}
-use Rattle.program_map.specs.declared.figures.Figures.{Figures}
-use Rattle.program_map.specs.declared.kind.Kind.{Kind}
+use Rattle.program_map.specs.declared.maps.figures.Figures.{Figures}
+use Rattle.program_map.specs.declared.maps.kind.Kind.{Kind}
 use Rattle.program_map.specs.Figures.{CountedStatement, all_counted, bytes_that, counted_statement, figures, is_code_kind, is_data_kind, is_space_kind, jumps_with, relaxables}
 use Rattle.program_map.specs.Private.Adding.{added}
 

@@ -10,9 +10,9 @@ use Rattle.zmo_object.specs.declared.module.Module as whole
 use Rattle.zmo_object.specs.Modules.{Module, module_of}
 use Rattle.zlink.specs.Program.Laws.{statement_count}
 use Rattle.zlink.specs.Program.Parts.{parts_from}
-use Rattle.program_map.specs.declared.figures.Figures.{Figures}
-use Rattle.program_map.specs.declared.kind.Kind.{Kind}
-use Rattle.program_map.specs.declared.map.ModuleMap.{ModuleMap}
+use Rattle.program_map.specs.declared.maps.figures.Figures.{Figures}
+use Rattle.program_map.specs.declared.maps.kind.Kind.{Kind}
+use Rattle.program_map.specs.declared.maps.map.ModuleMap.{ModuleMap}
 use Rattle.program_map.specs.Figures.{Ascend}
 use Rattle.program_map.specs.Map.{mapped_modules, mapped_part, program_map, summed}
 use Rattle.program_map.specs.Mapped.{MappedModule, MappedProgram, mapped_module_of}

@@ -8,8 +8,8 @@ use Rattle.std.proofs.lemmas.List.Elements.{All-cons, All-nil}
 use Rattle.std.proofs.lemmas.List.Sums.{sum_by-cons}
 use Rattle.zmo_object.specs.Modules as object
 use Rattle.zmo_object.specs.Modules.{Module, ModuleStatement}
-use Rattle.program_map.specs.declared.figures.Figures.{Figures}
-use Rattle.program_map.specs.declared.kind.Kind.{Kind}
+use Rattle.program_map.specs.declared.maps.figures.Figures.{Figures}
+use Rattle.program_map.specs.declared.maps.kind.Kind.{Kind}
 use Rattle.zlink.specs.Program.Laws.{statement_count}
 use Rattle.zlink.specs.Program.Parts.{parts_from}
 use Rattle.program_map.specs.Figures.{Ascend, CountedStatement, all_counted, counted_statement, figures, is_relaxable_statement}

@@ -3,7 +3,7 @@ use Rattle.std.proofs.Common.{◌≡◌, ◌∙◌, ◌+◌, ℕ, Bool, true, fa
 use Rattle.std.specs.List.{slice_index_or}
 use Rattle.std.proofs.lemmas.List.{drop-drop, get_or-drop}
 use Rattle.zmo_object.specs.Modules.{ModuleStatement}
-use Rattle.program_map.specs.declared.kind.Kind.{Kind}
+use Rattle.program_map.specs.declared.maps.kind.Kind.{Kind}
 use Rattle.program_map.specs.Private.Telling.{is_space_statement, told}
 
 pub told_space : (kinds new all said : List Kind) (s : ModuleStatement) (left rest : List ModuleStatement) → left ≡ s ∷ rest → is_space_statement s ≡ true → new ≡ kinds ++ Kind.Space ∷ []

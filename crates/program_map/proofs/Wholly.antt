@@ -7,7 +7,7 @@ use Rattle.zmo_object.specs.Modules.{Module}
 use Rattle.zlink.specs.File.Objects.{placed_shape}
 use Rattle.zlink.specs.File.Places.{ArePlaces}
 use Rattle.zlink.specs.Program.Whole.{program}
-use Rattle.program_map.specs.declared.kind.Kind.{Kind}
+use Rattle.program_map.specs.declared.maps.kind.Kind.{Kind}
 use Rattle.program_map.specs.Map.{mapped_modules, program_map}
 use Rattle.program_map.specs.Sums.{AddsUp, IsWholeMap, figure_bytes}
 

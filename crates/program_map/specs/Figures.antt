@@ -3,8 +3,8 @@ use Rattle.std.specs.Prelude.{◌≤◌, ◌<◌, ℕ, ◌+◌, ◌-◌, ◌==�
 use Rattle.std.specs.List.{enumerate_from, slice_index_or, sum_by}
 use Rattle.zmo_object.specs.Modules as object
 use Rattle.zmo_object.specs.Modules.{ModuleStatement}
-use Rattle.program_map.specs.declared.figures.Figures.{Figures}
-use Rattle.program_map.specs.declared.kind.Kind.{Kind}
+use Rattle.program_map.specs.declared.maps.figures.Figures.{Figures}
+use Rattle.program_map.specs.declared.maps.kind.Kind.{Kind}
 
 -- A statement as a map counts it: what it is, its bytes, and whether it is a jump that may be short or long.
 pub record CountedStatement : Type 0 where

@@ -2,7 +2,7 @@
 use Rattle.std.specs.Prelude.{List, map}
 use Rattle.asm_module.specs.Program.Statement as statement
 use Rattle.asm_module.specs.Program.Statement.{Statement}
-use Rattle.program_map.specs.declared.kind.Kind.{Kind}
+use Rattle.program_map.specs.declared.maps.kind.Kind.{Kind}
 
 -- An instruction is code, whether or not it is a jump; DB and DW are data; DS is space.
 abbrev pub statement_kind : Statement → Kind

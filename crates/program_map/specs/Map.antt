@@ -5,8 +5,8 @@ use Rattle.std.specs.Option.{option_map}
 use Rattle.zmo_object.specs.Modules.{Label, Module}
 use Rattle.zlink.specs.Program.Laws.{statement_count}
 use Rattle.zlink.specs.Program.Parts.{ModulePart, label_at, parts}
-use Rattle.program_map.specs.declared.figures.Figures.{Figures}
-use Rattle.program_map.specs.declared.kind.Kind.{Kind}
+use Rattle.program_map.specs.declared.maps.figures.Figures.{Figures}
+use Rattle.program_map.specs.declared.maps.kind.Kind.{Kind}
 use Rattle.program_map.specs.Figures.{all_counted, figures}
 use Rattle.program_map.specs.Mapped.{MappedModule, MappedProgram}
 use Rattle.program_map.specs.Named.{NamedPlace, by_address}

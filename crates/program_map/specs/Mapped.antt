@@ -1,8 +1,8 @@
 -- What a map holds.
 use Rattle.std.specs.Prelude.{ℕ, Bool, List, map}
-use Rattle.program_map.specs.declared.figures.Figures.{Figures}
-use Rattle.program_map.specs.declared.map.ModuleMap as module_map
-use Rattle.program_map.specs.declared.map.ProgramMap as program_map
+use Rattle.program_map.specs.declared.maps.figures.Figures.{Figures}
+use Rattle.program_map.specs.declared.maps.map.ModuleMap as module_map
+use Rattle.program_map.specs.declared.maps.map.ProgramMap as program_map
 use Rattle.program_map.specs.Named.{NamedPlace, named_of}
 
 -- A module in a map: its name, its first address, the address after its last byte, its bytes and jumps, and its public names by address.

@@ -3,7 +3,7 @@ use Rattle.std.specs.Prelude.{◌≡◌, ℕ, ◌+◌, All, Bool, true, false}
 use Rattle.common.specs.declared.limits.TheConstants.{FIRST_PLACE}
 use Rattle.relax.specs.declared.shape.Statement.{Statement}
 use Rattle.relax.specs.declared.shape.Statement.TheVariants as sized
-use Rattle.program_map.specs.declared.figures.Figures.{Figures}
+use Rattle.program_map.specs.declared.maps.figures.Figures.{Figures}
 use Rattle.program_map.specs.Mapped.{MappedModule, MappedProgram}
 
 abbrev pub figure_bytes : Figures → ℕ

@@ -3,7 +3,7 @@ use Rattle.std.specs.Prelude.{ℕ, Bool, not, List, [], ◌∷◌, ◌++◌, cod
 use Rattle.std.specs.List.{flat_map}
 use Rattle.std.specs.Str.{bytes_eq}
 use Rattle.zlink.specs.Linked.{Symbol}
-use Rattle.program_map.specs.declared.form.SymbolForm.{SymbolForm}
+use Rattle.program_map.specs.declared.symbol_files.form.SymbolForm.{SymbolForm}
 use Rattle.program_map.specs.Named.{NamedPlace, by_address}
 use Rattle.program_map.specs.Printed.{address_text, blanks, line_feed_text}
 

@@ -2,7 +2,7 @@
 use Rattle.std.specs.Prelude.{ℕ, ◌+◌, ◌-◌, Bool, true, false, List, ◌++◌, codes, decimal, if◌then◌else◌, nat_lt}
 use Rattle.std.specs.List.{flat_map}
 use Rattle.common.specs.declared.limits.TheConstants.{FIRST_PLACE, LONGEST_PROGRAM}
-use Rattle.program_map.specs.declared.figures.Figures.{Figures}
+use Rattle.program_map.specs.declared.maps.figures.Figures.{Figures}
 use Rattle.program_map.specs.Named.{NamedPlace}
 use Rattle.program_map.specs.Mapped.{MappedModule, MappedProgram}
 use Rattle.program_map.specs.Printed.{address_text, blanks, number_column, line_feed_text}

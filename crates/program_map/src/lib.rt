@@ -5,32 +5,21 @@
 //! [`find_long_jumps`] says of each long jump how far it is from being short, and which other long jumps are the reason.
 #![tactic(auto)]
 
-mod figures;
-mod form;
-mod kind;
-mod kinds;
 pub mod laws;
 mod listings;
-mod map;
-mod mapping;
+mod maps;
 mod naming;
 mod printing;
-mod programs;
 mod reasons;
 mod symbol_files;
-mod text;
 
-pub use figures::Figures;
-pub use form::SymbolForm;
-pub use kind::Kind;
-pub use kinds::kinds_of;
 pub use listings::{listing, symbols};
-pub use map::{ModuleMap, ProgramMap};
-pub use mapping::program_map;
+pub use maps::{
+    Figures, Kind, ModuleMap, ProgramMap, kinds_of, map_of_built, map_of_linked, map_text,
+    program_map,
+};
 pub use naming::PlacedName;
-pub use programs::{map_of_built, map_of_linked};
 pub use reasons::{LongJump, LongJumps, find_long_jumps, long_jumps_of};
 pub use source_warnings::Site;
-pub use symbol_files::symbol_file;
-pub use text::map_text;
+pub use symbol_files::{SymbolForm, symbol_file};
 pub use zlink::JoinFault;

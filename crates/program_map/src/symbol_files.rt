@@ -7,9 +7,11 @@ ghost use Rattle.program_map.specs.Named.{named_of};
 ghost use Rattle.program_map.specs.SymbolFile.{is_made_by_local, label_named, printed_in, sid_line, ucsim_line};
 ghost use Rattle.program_map.specs.SymbolFile as spec;
 
-use crate::form::SymbolForm;
+mod form;
+
 use crate::naming::{PlacedName, by_address};
 use crate::printing::{put, put_address, put_blanks};
+pub use form::SymbolForm;
 use std::alloc::{AllocError, Global};
 use zlink::Symbol;
 

@@ -1,8 +1,8 @@
 -- Figures with one more statement.
 use Rattle.std.specs.Prelude.{◌+◌, ◌==◌, ◌&&◌, List, Option, Some, None, if◌then◌else◌}
 use Rattle.std.specs.Borrow.{Bor}
-use Rattle.program_map.specs.declared.figures.Figures.{Figures}
-use Rattle.program_map.specs.declared.kind.Kind.{Kind}
+use Rattle.program_map.specs.declared.maps.figures.Figures.{Figures}
+use Rattle.program_map.specs.declared.maps.kind.Kind.{Kind}
 use Rattle.program_map.specs.Figures.{CountedStatement, is_code_kind, is_data_kind, is_space_kind}
 
 abbrev pub added : Figures → CountedStatement → Figures

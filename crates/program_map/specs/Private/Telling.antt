@@ -7,7 +7,7 @@ use Rattle.asm_spell.specs.Line.{Body, Line}
 use Rattle.asm_module.specs.Program.Statement.{Statement}
 use Rattle.zmo_object.specs.Modules as object
 use Rattle.zmo_object.specs.Modules.{ModuleStatement}
-use Rattle.program_map.specs.declared.kind.Kind.{Kind}
+use Rattle.program_map.specs.declared.maps.kind.Kind.{Kind}
 use Rattle.program_map.specs.Kinds.{kinds}
 
 -- what a line's statement is, if it is not space: whether DS makes a statement depends on its size

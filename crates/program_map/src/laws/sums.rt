@@ -8,7 +8,7 @@ ghost use Rattle.zmo_object.specs.Modules.{Module};
 ghost use Rattle.zlink.specs.File.Objects.{placed_shape};
 ghost use Rattle.zlink.specs.File.Places.{ArePlaces};
 ghost use Rattle.zlink.specs.Program.Whole.{program};
-ghost use Rattle.program_map.specs.declared.kind.Kind.{Kind};
+ghost use Rattle.program_map.specs.declared.maps.kind.Kind.{Kind};
 ghost use Rattle.program_map.specs.Map.{mapped_modules, program_map};
 ghost use Rattle.program_map.specs.Sums.{AddsUp, figure_bytes, is_sized_jump};
 

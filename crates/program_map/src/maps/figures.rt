@@ -6,7 +6,7 @@ ghost use Rattle.program_map.specs.Figures.{Ascend, CountedStatement, all_counte
 ghost use Rattle.program_map.specs.Figures as spec;
 ghost use Rattle.program_map.specs.Private.Adding.{added, seen_kinds};
 
-use crate::kind::Kind;
+use crate::maps::kind::Kind;
 use zmo_object::Statement;
 
 /// How many bytes and relaxable jumps a module has.

@@ -16,7 +16,7 @@ ghost use Rattle.program_map.specs.Kinds.{kinds as all_kinds};
 ghost use Rattle.program_map.specs.Private.Telling.{AreTold, is_space_statement, told};
 ghost use Rattle.program_map.specs.Private.Telling as spec;
 
-use crate::kind::Kind;
+use crate::maps::kind::Kind;
 use asm_module::{SourceLine, read_source};
 use asm_spell::{Body, Line};
 use std::alloc::{AllocError, Global};

@@ -1,6 +1,6 @@
 //! What a map holds.
 
-use crate::figures::Figures;
+use crate::maps::figures::Figures;
 use crate::naming::PlacedName;
 
 /// A module in a map.

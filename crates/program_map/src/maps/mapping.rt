@@ -11,9 +11,9 @@ ghost use Rattle.program_map.specs.Mapped.{mapped_module_of, mapped_program_of};
 ghost use Rattle.program_map.specs.Named.{by_address, named_of};
 ghost use Rattle.program_map.specs.Private.Adding.{joined_figures, seen_kinds};
 
-use crate::figures::{Figures, NOTHING, figures_of};
-use crate::kind::Kind;
-use crate::map::{ModuleMap, ProgramMap};
+use crate::maps::figures::{Figures, NOTHING, figures_of};
+use crate::maps::kind::Kind;
+use crate::maps::map::{ModuleMap, ProgramMap};
 use crate::naming::{PlacedName, by_address};
 use std::alloc::{AllocError, Global};
 use zmo_object::Module;

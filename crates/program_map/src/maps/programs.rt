@@ -10,10 +10,10 @@ ghost use Rattle.program_map.specs.Mapped.{mapped_program_of};
 ghost use Rattle.program_map.specs.Programs.{IsMapOf, built_places};
 ghost use Rattle.program_map.specs.Sums.{IsWholeMap};
 
-use crate::kinds::kinds_of;
 use crate::laws::adds_up;
-use crate::map::ProgramMap;
-use crate::mapping::program_map;
+use crate::maps::kinds::kinds_of;
+use crate::maps::map::ProgramMap;
+use crate::maps::mapping::program_map;
 use common::FIRST_PLACE;
 use std::alloc::{AllocError, Global};
 use zlink::{Built, Linked, Module, Source};

@@ -6,8 +6,8 @@ ghost use Rattle.program_map.specs.Named.{named_of};
 ghost use Rattle.program_map.specs.Text.{byte_columns, free_bytes, free_line, jumps_line, last_text, map_row, module_rows, public_row};
 ghost use Rattle.program_map.specs.Text as spec;
 
-use crate::figures::Figures;
-use crate::map::{ModuleMap, ProgramMap};
+use crate::maps::figures::Figures;
+use crate::maps::map::{ModuleMap, ProgramMap};
 use crate::naming::PlacedName;
 use crate::printing::{put, put_address, put_blanks, put_column};
 use common::{FIRST_PLACE, LONGEST_PROGRAM};

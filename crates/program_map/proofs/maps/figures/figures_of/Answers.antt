@@ -4,7 +4,7 @@ use Rattle.zmo_object.specs.Modules.{statement_of}
 use Rattle.program_map.specs.Figures.{CountedStatement, all_counted, counted_statement, figures, kind_at, is_relaxable_statement}
 use Rattle.program_map.specs.Private.Adding.{added, seen_kinds}
 use Rattle.program_map.proofs.Figuring.{added_bytes, added_jumps, figures_more}
-use Rattle.program_map.proofs.figures.figures_of.Goals as goal
+use Rattle.program_map.proofs.maps.figures.figures_of.Goals as goal
 
 pub loop-number-preserved : goal.loop-number-preserved
 loop-number-preserved c =

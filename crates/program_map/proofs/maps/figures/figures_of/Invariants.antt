@@ -2,7 +2,7 @@ use Rattle.std.proofs.Common.{◌≡◌, ◌≤◌, ◌+◌, map, slice_index, t
 use Rattle.zmo_object.specs.Modules.{statement_of}
 use Rattle.program_map.specs.Figures.{all_counted, figures}
 use Rattle.program_map.specs.Private.Adding.{seen_kinds}
-use Rattle.program_map.proofs.figures.figures_of.Given as goal
+use Rattle.program_map.proofs.maps.figures.figures_of.Given as goal
 
 -- The figures so far are those of the statements so far, whose bytes begin at the first address and end at this one.
 abbrev pub invariant-loop-number : goal.invariant-loop-number

@@ -7,7 +7,7 @@ use Rattle.zlink.specs.Sources.{Assembly, IsAssembly}
 use Rattle.zlink.specs.declared.source.Source.{Source}
 use Rattle.program_map.specs.Kinds.{kinds}
 use Rattle.program_map.proofs.All_sources.{Few, all_even, even_at, same_at, told_more, whole_kinds, zip_at}
-use Rattle.program_map.proofs.kinds.kinds_of.Goals as goal
+use Rattle.program_map.proofs.maps.kinds.kinds_of.Goals as goal
 
 pub loop-number-preserved : goal.loop-number-preserved
 loop-number-preserved c = λ grow all assembled modules count.

@@ -4,7 +4,7 @@ use Rattle.zmo_object.specs.Modules.{module_of}
 use Rattle.zlink.specs.Program.Laws.{statement_count}
 use Rattle.zlink.specs.Sources.{Assembly, AreAssembled, modules_of, program_of}
 use Rattle.program_map.specs.Kinds.{kinds}
-use Rattle.program_map.proofs.kinds.kinds_of.Given as goal
+use Rattle.program_map.proofs.maps.kinds.kinds_of.Given as goal
 
 -- The kinds so far are those of the programs of the sources so far.
 abbrev pub invariant-loop-number : goal.invariant-loop-number

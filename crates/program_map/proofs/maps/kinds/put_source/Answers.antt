@@ -4,7 +4,7 @@ use Rattle.asm_module.specs.Reads.Read.{taken}
 use Rattle.zmo_object.specs.Modules.{module_of}
 use Rattle.asm_names.specs.Lines.{lines_of}
 use Rattle.program_map.specs.Private.Telling.{line_kinds, told}
-use Rattle.program_map.proofs.kinds.put_source.Goals as goal
+use Rattle.program_map.proofs.maps.kinds.put_source.Goals as goal
 
 pub returns : goal.returns
 returns c = on_ok_weaker c.put_told.result

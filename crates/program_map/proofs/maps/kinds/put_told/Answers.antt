@@ -2,8 +2,8 @@ use Rattle.std.proofs.Common.{◌≡◌, ◌∙◌, ◌+◌, ◌∷◌, ◌++◌
 use Rattle.zmo_object.specs.Modules.{statement_of}
 use Rattle.program_map.proofs.Parting.{front_of}
 use Rattle.program_map.proofs.Told.{told_other, told_space}
-use Rattle.program_map.proofs.kinds.put_told.Goals as goal
-use Rattle.program_map.proofs.kinds.put_told.Goals.{then-is_space+in_ok-push, else-is_space+in_ok-push-2}
+use Rattle.program_map.proofs.maps.kinds.put_told.Goals as goal
+use Rattle.program_map.proofs.maps.kinds.put_told.Goals.{then-is_space+in_ok-push, else-is_space+in_ok-push-2}
 
 pub loop-statement-preserved : goal.loop-statement-preserved
 loop-statement-preserved c =

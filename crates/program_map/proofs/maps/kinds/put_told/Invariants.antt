@@ -1,7 +1,7 @@
 use Rattle.std.proofs.Common.{◌≡◌, ◌≤◌, ◌++◌, drop, map}
 use Rattle.zmo_object.specs.Modules.{statement_of}
 use Rattle.program_map.specs.Private.Telling.{told}
-use Rattle.program_map.proofs.kinds.put_told.Given as goal
+use Rattle.program_map.proofs.maps.kinds.put_told.Given as goal
 
 abbrev pub invariant-loop-statement : goal.invariant-loop-statement
 invariant-loop-statement l = record {

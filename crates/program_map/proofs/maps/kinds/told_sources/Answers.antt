@@ -1,5 +1,5 @@
 use Rattle.program_map.proofs.By_line.{Pieces, source_few, source_told}
-use Rattle.program_map.proofs.kinds.told_sources.Goals as goal
+use Rattle.program_map.proofs.maps.kinds.told_sources.Goals as goal
 
 pub returns-clause-few : goal.returns-clause-few
 returns-clause-few c =

@@ -8,7 +8,7 @@ use Rattle.program_map.specs.Map.{mapped_module, mapped_modules, mapped_part, su
 use Rattle.program_map.specs.Mapped.{mapped_module_of}
 use Rattle.program_map.specs.Private.Adding.{joined_figures, seen_kinds}
 use Rattle.program_map.proofs.Parting.{front_of, summed_push, count_front, parts_more, bytes_more, jumps_more, program_is, told_some, vec_length}
-use Rattle.program_map.proofs.mapping.program_map.Goals as goal
+use Rattle.program_map.proofs.maps.mapping.program_map.Goals as goal
 
 pub loop-module-preserved : goal.loop-module-preserved
 loop-module-preserved c =

@@ -5,7 +5,7 @@ use Rattle.zlink.specs.Program.Parts.{parts_from}
 use Rattle.program_map.specs.Map.{mapped_modules, mapped_part, summed}
 use Rattle.program_map.specs.Mapped.{mapped_module_of}
 use Rattle.program_map.specs.Private.Adding.{seen_kinds}
-use Rattle.program_map.proofs.mapping.program_map.Given as goal
+use Rattle.program_map.proofs.maps.mapping.program_map.Given as goal
 
 -- The modules so far and those that are left are all modules. The sums are those of the modules so far, whose bytes end at this address.
 abbrev pub invariant-loop-module : goal.invariant-loop-module

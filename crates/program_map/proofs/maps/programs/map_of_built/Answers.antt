@@ -17,7 +17,7 @@ use Rattle.program_map.specs.Kinds.{kinds}
 use Rattle.program_map.specs.Map.{program_map}
 use Rattle.program_map.specs.Programs.{built_places}
 use Rattle.program_map.proofs.Placing.{built_are_places, places_ascend, same_count}
-use Rattle.program_map.proofs.programs.map_of_built.Goals as goal
+use Rattle.program_map.proofs.maps.programs.map_of_built.Goals as goal
 
 pub program_map-requires-clause-ascend : goal.program_map-requires-clause-ascend
 program_map-requires-clause-ascend c =

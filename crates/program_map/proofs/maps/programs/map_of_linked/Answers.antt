@@ -10,7 +10,7 @@ use Rattle.zmo_object.specs.Modules.{module_of}
 use Rattle.zlink.specs.File.Objects.{placed_shape}
 use Rattle.zlink.specs.Program.Whole.{program}
 use Rattle.program_map.proofs.Placing.{places_ascend}
-use Rattle.program_map.proofs.programs.map_of_linked.Goals as goal
+use Rattle.program_map.proofs.maps.programs.map_of_linked.Goals as goal
 
 pub program_map-requires-clause-ascend : goal.program_map-requires-clause-ascend
 program_map-requires-clause-ascend c = rw c.deref.ensures.value (places_ascend (after c.requires.1) (placed_shape (program (map module_of c.args.modules.now))) c.args.linked.now.places.items c.requires.3)

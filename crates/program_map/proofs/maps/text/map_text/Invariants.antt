@@ -2,7 +2,7 @@ use Rattle.std.proofs.Common.{◌≡◌, ◌++◌, drop, map}
 use Rattle.std.specs.List.{flat_map}
 use Rattle.program_map.specs.Mapped.{mapped_module_of}
 use Rattle.program_map.specs.Text.{heading, module_rows}
-use Rattle.program_map.proofs.text.map_text.Given as goal
+use Rattle.program_map.proofs.maps.text.map_text.Given as goal
 
 -- The rows so far and those of the modules that are left are all rows of modules.
 abbrev pub invariant-loop-module : goal.invariant-loop-module

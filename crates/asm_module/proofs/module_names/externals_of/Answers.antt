@@ -2,8 +2,8 @@ use Rattle.std.proofs.Common.{rules, ◌≡◌, ◌<◌, ◌+◌, ◌∙◌, ℕ
 use Rattle.std.specs.Global.{Global}
 use Rattle.asm_names.specs.Meanings.{external_in, externals}
 use Rattle.asm_module.proofs.Holding.Collected.{given_more, is_given}
-use Rattle.asm_module.proofs.passing_on.externals_of.Goals as goal
-use Rattle.asm_module.proofs.passing_on.externals_of.Goals.{in-Some+in_ok-one+in_ok-put, in_default}
+use Rattle.asm_module.proofs.module_names.externals_of.Goals as goal
+use Rattle.asm_module.proofs.module_names.externals_of.Goals.{in-Some+in_ok-one+in_ok-put, in_default}
 
 pub loop-at-preserved : goal.loop-at-preserved
 loop-at-preserved c =

@@ -11,11 +11,11 @@ use std::marker::Model;
 
 /// A set of names, in which each is looked up by its hash.
 #[derive(Drop)]
-pub struct Listed<'a> {
+pub struct NameSet<'a> {
     set: IndexSet<&'a [u8], NameKey>,
 }
 
-impl<'a> Model for Listed<'a> {
+impl<'a> Model for NameSet<'a> {
     ghost use Rattle.std.specs.Prelude.{List, ℕ, map};
 
     ghost Value = { List (List ℕ) };
@@ -23,12 +23,12 @@ impl<'a> Model for Listed<'a> {
     ghost view = { λ n. map (λ k. k.now) n.set.keys };
 }
 
-impl<'a> Listed<'a> {
+impl<'a> NameSet<'a> {
     /// Makes an empty set, which hashes names with `key`.
-    pub(crate) fn new(alloc: Global, key: NameKey) -> Listed<'a>
+    pub(crate) fn new(alloc: Global, key: NameKey) -> NameSet<'a>
         ensures { result ≡ [] }
     {
-        Listed {
+        NameSet {
             set: IndexSet::with_hasher(alloc, key),
         }
     }

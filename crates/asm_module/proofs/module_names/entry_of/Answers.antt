@@ -10,7 +10,7 @@ use Rattle.zmo_object.specs.declared.module.Label.{Label}
 use Rattle.zmo_object.specs.Modules.{label_of}
 use Rattle.asm_module.specs.Holding.{entry, entry_name, label_number}
 use Rattle.asm_module.proofs.Holding.Collected.{position_map}
-use Rattle.asm_module.proofs.passing_on.entry_of.Goals as goal
+use Rattle.asm_module.proofs.module_names.entry_of.Goals as goal
 
 -- the entry is the position of END's name among the labels
 at_name : (labels : List Label) (lines : List Taken) (name : List ℕ) → Some name ≡ entry_name lines → position_from (λ l. bytes_eq name l.name.items) 0 labels ≡ entry (map label_of labels) lines

@@ -12,7 +12,7 @@ ghost use Rattle.asm_names.specs.Lines.{lines_of};
 ghost use Rattle.zmo_object.specs.Modules.{label_of};
 ghost use Rattle.asm_module.specs.Holding.{begins, entry, entry_name, is_origin_line, label_in, labels, listed, publics};
 
-use crate::listed::Listed;
+use crate::name_set::NameSet;
 use asm_names::{Kind, Layout, NameTable, SourceLine};
 use asm_spell::{Body, KeptName, Line};
 use common::{KeyMixer, NameKey};
@@ -131,7 +131,7 @@ fn key_of(lines: &[SourceLine]) -> NameKey {
 }
 
 /// Adds the names that a PUBLIC line lists.
-fn list_names<'a>(names: &'a [KeptName], listed: &mut Listed<'a>) -> Result<(), AllocError>
+fn list_names<'a>(names: &'a [KeptName], listed: &mut NameSet<'a>) -> Result<(), AllocError>
     ensures { OnOk result ((name : List ℕ) → list_any (bytes_eq name) listed.new ≡ (list_any (bytes_eq name) listed.old || list_any (bytes_eq name) (listed_names names.now))) }
 {
     for name in names {
@@ -141,10 +141,10 @@ fn list_names<'a>(names: &'a [KeptName], listed: &mut Listed<'a>) -> Result<(), 
 }
 
 /// Answers the names that PUBLIC lines list.
-fn listed_by<'a>(alloc: Global, lines: &'a [SourceLine]) -> Result<Listed<'a>, AllocError>
+fn listed_by<'a>(alloc: Global, lines: &'a [SourceLine]) -> Result<NameSet<'a>, AllocError>
     ensures { IfOk result (λ all. (name : List ℕ) → list_any (bytes_eq name) all ≡ list_any (bytes_eq name) (listed (lines_of lines.now))) }
 {
-    let mut all = Listed::new(alloc, key_of(lines));
+    let mut all = NameSet::new(alloc, key_of(lines));
     for line in lines {
         if let Line::Statement {
             label: _,

@@ -5,7 +5,7 @@ use Rattle.asm_spell.specs.Line.{line_of}
 use Rattle.asm_names.specs.Lines.{taken_of}
 use Rattle.asm_module.specs.Holding.{is_origin_line}
 use Rattle.asm_module.proofs.Holding.Collected.{any_map}
-use Rattle.asm_module.proofs.passing_on.begins.Goals as goal
+use Rattle.asm_module.proofs.module_names.begins.Goals as goal
 
 pub returns : goal.returns
 returns c =

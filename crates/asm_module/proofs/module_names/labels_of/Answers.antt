@@ -3,8 +3,8 @@ use Rattle.asm_names.specs.Layout.{layout_of}
 use Rattle.zmo_object.specs.Modules.{label_of}
 use Rattle.asm_module.specs.Holding.{label_in, labels}
 use Rattle.asm_module.proofs.Holding.Collected.{given_more, is_given}
-use Rattle.asm_module.proofs.passing_on.labels_of.Goals as goal
-use Rattle.asm_module.proofs.passing_on.labels_of.Goals.{in-Some+in_ok-one+in_ok-put, in_default}
+use Rattle.asm_module.proofs.module_names.labels_of.Goals as goal
+use Rattle.asm_module.proofs.module_names.labels_of.Goals.{in-Some+in_ok-one+in_ok-put, in_default}
 
 pub loop-at-preserved : goal.loop-at-preserved
 loop-at-preserved c =

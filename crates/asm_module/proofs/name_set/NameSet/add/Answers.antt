@@ -2,7 +2,7 @@ use Rattle.std.proofs.Common.{◌∙◌, ap, map, ◌||◌}
 use Rattle.std.specs.List.{list_any}
 use Rattle.std.specs.Str.{bytes_eq}
 use Rattle.asm_module.proofs.Holding.Collected.{found_more}
-use Rattle.asm_module.proofs.listed.Listed.add.Goals as goal
+use Rattle.asm_module.proofs.name_set.NameSet.add.Goals as goal
 
 pub returns : goal.returns
 returns c = λ other.

@@ -6,8 +6,8 @@ use Rattle.asm_names.specs.Lines.{lines_of}
 use Rattle.zmo_object.specs.Modules.{label_of}
 use Rattle.asm_module.specs.Holding.{listed, public_by, publics}
 use Rattle.asm_module.proofs.Holding.Collected.{numbered_more}
-use Rattle.asm_module.proofs.passing_on.publics_of.Goals as goal
-use Rattle.asm_module.proofs.passing_on.publics_of.Goals.{then-has+in_ok-push, else-has}
+use Rattle.asm_module.proofs.module_names.publics_of.Goals as goal
+use Rattle.asm_module.proofs.module_names.publics_of.Goals.{then-has+in_ok-push, else-has}
 
 pub loop-number-preserved : goal.loop-number-preserved
 loop-number-preserved c =
