@@ -158,7 +158,7 @@ impl<'b, 's, 'f> Named<'b, 's, 'f> {
 /// # Errors
 ///
 /// [`AllocError`] if memory ran out.
-pub fn long_jumps_of(
+pub fn long_jump_notes(
     alloc: Global,
     sources: &Sources<'_, '_>,
     built: &Built,
