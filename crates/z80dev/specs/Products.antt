@@ -2,7 +2,7 @@
 use Rattle.std.specs.Prelude.{ℕ, false, List, Option, None, Some, codes, if◌then◌else◌}
 use Rattle.std.specs.Borrow.{Bor}
 use Rattle.std.specs.Str.{bytes_eq}
-use Rattle.program_map.specs.declared.form.SymbolForm.{SymbolForm}
+use Rattle.program_map.specs.declared.symbol_files.form.SymbolForm.{SymbolForm}
 use Rattle.z80dev_commands.specs.declared.job.Build.{Build}
 use Rattle.z80dev_commands.specs.declared.job.Link.{Link}
 use Rattle.z80dev_make.specs.declared.products.Products.{Products}

@@ -19,7 +19,7 @@ use Rattle.host.specs.declared.answer.Kind.TheVariants as kind
 use Rattle.report_texts.specs.declared.front.SourceFile.{SourceFile}
 use Rattle.report_texts.specs.declared.front.Front.{Front}
 use Rattle.z80dev_make.specs.declared.jumps.Jumps.{Jumps}
-use Rattle.program_map.specs.declared.form.SymbolForm.{SymbolForm}
+use Rattle.program_map.specs.declared.symbol_files.form.SymbolForm.{SymbolForm}
 use Rattle.z80dev_make.specs.Answers.{HasKinds, kinds_of, no_program}
 use Rattle.z80dev_make.specs.Products.{listing_files, listing_kinds, map_files, map_kinds, program_kinds, symbol_files, symbol_kinds}
 use Rattle.z80dev_make.specs.declared.products.Products.{Products}

@@ -8,7 +8,7 @@ use Rattle.program_map.specs.Programs.{IsMapOf}
 use Rattle.program_map.specs.Sums.{IsWholeMap}
 use Rattle.program_map.specs.SymbolFile.{symbol_file}
 use Rattle.program_map.specs.Text.{map_text}
-use Rattle.program_map.specs.declared.form.SymbolForm.{SymbolForm}
+use Rattle.program_map.specs.declared.symbol_files.form.SymbolForm.{SymbolForm}
 use Rattle.host.specs.declared.answer.Kind.{Kind}
 use Rattle.host.specs.declared.answer.Kind.TheVariants as kind
 use Rattle.z80dev_make.specs.declared.products.Products.{Products}

@@ -10,7 +10,7 @@ ghost use Rattle.report_texts.specs.Front.{front_text};
 ghost use Rattle.z80dev_make.specs.Jumps.{jumps_of};
 ghost use Rattle.report_texts.specs.Shared.{UnlessFaulty};
 ghost use Rattle.z80dev_make.specs.Warned.{AreWarnings};
-ghost use Rattle.program_map.specs.declared.form.SymbolForm.{SymbolForm};
+ghost use Rattle.program_map.specs.declared.symbol_files.form.SymbolForm.{SymbolForm};
 ghost use Rattle.z80dev_make.specs.Products.{IsMapText, listing_files, symbol_files};
 ghost use Rattle.zlink.specs.Built.{IsBuilt};
 ghost use Rattle.zlink.specs.Linked.{Symbol};
