@@ -10,3 +10,4 @@ mod Placing
 mod Turning
 pub mod Refs
 mod Valued
+mod ByLines

@@ -7,3 +7,4 @@ pub mod Circles
 pub mod Meanings
 pub mod Settles
 pub mod Private
+pub mod Levels

@@ -3,5 +3,5 @@
 mod meanings;
 mod names;
 
-pub use meanings::{refs, told, valued};
+pub use meanings::{level_by_level, refs, told, valued};
 pub use names::{distinct, few, given, one_more};

@@ -1,6 +1,6 @@
 -- Which things lead to which, given what each names.
 -- In words: docs/LANGUAGE.md, section 'EQU'.
-use Rattle.std.specs.Prelude.{◌≡◌, ◌⊎◌, List}
+use Rattle.std.specs.Prelude.{List}
 use Rattle.std.specs.List.{Contains}
 
 -- One thing leads to another: it names it, or it names a thing that leads to it.

@@ -5,9 +5,12 @@ ghost use Rattle.std.specs.List.{list_any};
 ghost use Rattle.std.specs.Map.{lookup};
 ghost use Rattle.std.specs.Str.{bytes_eq};
 ghost use Rattle.asm_expr.specs.declared.meaning.Meaning.{Meaning};
-ghost use Rattle.asm_expr.specs.Distances.{is_unsized};
+ghost use Rattle.asm_parse.specs.Expression.{Expression};
+ghost use Rattle.asm_parse.specs.Source.{Operand};
+ghost use Rattle.asm_expr.specs.Below.{Atom, value};
+ghost use Rattle.asm_expr.specs.Distances.{Step, is_unsized};
 ghost use Rattle.asm_expr.specs.Origins.{Brings, is_number_name, is_valued_name};
-ghost use Rattle.asm_expr.specs.Settling.{is_constant_name};
+ghost use Rattle.asm_expr.specs.Settling.{is_constant_name, known, replaced};
 ghost use Rattle.asm_names.specs.declared.walk.Turn.{Turn};
 ghost use Rattle.asm_names.specs.Orders.Order.{IsOrder};
 ghost use Rattle.asm_names.specs.Faults as naming;
@@ -15,7 +18,8 @@ ghost use Rattle.asm_names.specs.Lines.{Taken};
 ghost use Rattle.asm_names.specs.Names.{Names, names};
 ghost use Rattle.asm_names.specs.Circles.{TellsCircles, lines_named};
 ghost use Rattle.asm_names.specs.Layout.{Layout, next_at};
-ghost use Rattle.asm_names.specs.Meanings.{name_meanings, externals, first_equ_fault};
+ghost use Rattle.asm_names.specs.Levels.{HasValue};
+ghost use Rattle.asm_names.specs.Meanings.{name_meanings, externals, first_equ_fault, table_at};
 ghost use Rattle.asm_names.specs.Settles.{is_marked_circular};
 
 /// Turns that are an order of the lines mark exactly the lines that lead back to themselves.
@@ -50,3 +54,13 @@ pub fn refs()
 {
     asm_expr::laws::no_other_refs();
 }
+
+/// An expression whose names are replaced has the value that its lines give it, level by level, at all addresses that step by each known size,
+/// as those of every choice of jumps do. There is no other.
+pub fn level_by_level()
+    ensures value { (names : Names) (lines : List Taken) (circle : ℕ → Bool) (layout : Layout) (places : ℕ → ℕ) → Step layout.statements places →
+        (at : ℕ) (e : Expression Operand) (whole : Expression Atom) → replaced (table_at layout (name_meanings names lines circle layout) at) e ≡ known whole →
+        HasValue names lines layout places at e (value places whole) }
+    ensures one { (names : Names) (lines : List Taken) (layout : Layout) (places : ℕ → ℕ) (at : ℕ) (e : Expression Operand) (m n : ℕ) →
+        HasValue names lines layout places at e m → HasValue names lines layout places at e n → m ≡ n }
+{}
