@@ -10,3 +10,4 @@ pub mod Holding
 pub mod Growing
 mod Example
 pub mod Placing
+pub mod Levels

@@ -11,6 +11,6 @@ mod source;
 pub use answer::one_answer;
 pub use layout::kinds_anywhere;
 pub use module::all_found;
-pub use program::pieces_at_places;
+pub use program::{level_by_level, pieces_at_places};
 pub use rules::pieces_keep_rules;
 pub(crate) use source::{emitted, outlined};

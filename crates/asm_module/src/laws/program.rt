@@ -2,15 +2,19 @@
 //! nothing and whose clause is a theorem.
 
 ghost use Rattle.std.specs.Prelude.{◌≡◌, ◌<◌, ℕ, All, Bool, true, false, List, Some, None, Ok, length, map};
-ghost use Rattle.std.specs.List.{list_any};
+ghost use Rattle.std.specs.List.{list_all, list_any};
+ghost use Rattle.asm_parse.specs.Expression.{postfix};
+ghost use Rattle.asm_expr.specs.Below.{source, value};
 ghost use Rattle.asm_expr.specs.Distances.{Step, is_unsized};
 ghost use Rattle.asm_expr.specs.Names.{Table, found};
-ghost use Rattle.asm_expr.specs.Origins.{is_valued_name};
+ghost use Rattle.asm_expr.specs.Origins.{is_valued_item, is_valued_name};
 ghost use Rattle.asm_expr.specs.declared.meaning.Meaning.{Meaning};
-ghost use Rattle.asm_spell.specs.Line.{Body};
+ghost use Rattle.asm_spell.specs.Line.{Body, ExpressionItems};
 ghost use Rattle.asm_names.specs.Lines.{Taken};
 ghost use Rattle.asm_names.specs.Names.{Names, kind_of_name};
 ghost use Rattle.asm_names.specs.Layout.{Layout};
+ghost use Rattle.asm_names.specs.Levels.{HasValue};
+ghost use Rattle.asm_names.specs.Meanings.{name_meanings, table_at};
 ghost use Rattle.asm_stmt.specs.Made.{Nothing, Piece, Some_piece, made};
 ghost use Rattle.asm_module.specs.Layouts.Sizes.{sizes};
 ghost use Rattle.asm_module.specs.Module.Stated.{first_statement_fault, numbered_statements};
@@ -19,7 +23,7 @@ ghost use Rattle.asm_module.specs.Program.Lines.{AreAt, program_of_lines};
 ghost use Rattle.asm_module.specs.Program.Linked.{IsSizedLike, IsLinkedPiece};
 ghost use Rattle.asm_module.specs.Program.Pieces.{IsPiece, statement_size, takes};
 ghost use Rattle.asm_module.specs.Program.Spelled.{IsSpelled};
-ghost use Rattle.asm_module.specs.Program.Statement.{Statement, stated};
+ghost use Rattle.asm_module.specs.Program.Statement.{Statement, replaced_expression, stated};
 ghost use Rattle.asm_module.specs.Rules.Fitting.{IsReadLine};
 
 /// What a parsed line makes is the statement that it describes: a jump goes to the same ref, and at all addresses that grow by the known
@@ -49,4 +53,14 @@ pub(super) fn statements_at_places()
     asm_expr::laws::number_of_numbers();
     asm_expr::laws::valued();
     pieces_at_places();
+}
+
+/// An expression of a program has the value that the lines of its source give it, level by level: an EQU name that of the expression in its own
+/// line. In a source without an error each name that is used has a value (`asm_names::laws::valued`).
+pub fn level_by_level()
+    ensures { (names : Names) (lines : List Taken) (circle : ℕ → Bool) (layout : Layout) (places : ℕ → ℕ) → Step layout.statements places →
+        (at : ℕ) (e : ExpressionItems) → list_all (is_valued_item (table_at layout (name_meanings names lines circle layout) at)) (postfix (source e)) ≡ true →
+        HasValue names lines layout places at (source e) (value places (replaced_expression (table_at layout (name_meanings names lines circle layout) at) e)) }
+{
+    asm_names::laws::level_by_level();
 }
