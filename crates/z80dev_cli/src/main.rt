@@ -9,7 +9,7 @@ mod words;
 use files::HostFiles;
 use host::{FILE_FAULT, put_all};
 use keyboard::Keyboard;
-use notes::{explain_note, keyboard_note, program_path, source_note};
+use notes::{explain_note, keyboard_note, program_note, program_path, terminal_note};
 use std::alloc::AllocError;
 use std::fs::{self, File};
 use std::io::{self, IsTerminal, LineWriter};
@@ -65,13 +65,16 @@ fn prepare(rt: &HostRuntime, words: &[Vec<u8>]) {
     }
 }
 
-/// Says to somebody at a terminal why a file could not be used, which command says more of an error, or that a source was run as a program.
+/// Says to somebody at a terminal why a file could not be used, which command says more of an error, which values an option takes, or that a
+/// source or an image was run as a program.
 fn advise(rt: &HostRuntime, words: &[Vec<u8>], status: u8, files: &HostFiles<'_>) {
     if status == FILE_FAULT {
         explain(rt, files);
     } else if let Some(text) = explain_note(rt.alloc(), words, status) {
         note(rt, text.as_str());
-    } else if let Some(text) = source_note(rt.alloc(), words) {
+    } else if let Some(text) = terminal_note(rt.alloc(), words, status) {
+        note(rt, text);
+    } else if let Some(text) = program_note(rt.alloc(), words) {
         note(rt, text.as_str());
     }
 }

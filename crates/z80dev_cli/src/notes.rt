@@ -1,7 +1,7 @@
-//! Lines for somebody at a terminal, beside what a command prints: what it waits for, which command says more about an error, and that a source
-//! was run as a program. If the words are not those of a job, or memory ran out, there is no such line.
+//! Lines for somebody at a terminal, beside what a command prints: what it waits for, which command says more about an error, which values an
+//! option takes, and that a source or an image was run as a program. If the words are not those of a job, or memory ran out, there is no such line.
 
-use host::REFUSED;
+use host::{REFUSED, USAGE};
 use std::alloc::{AllocError, Global};
 use z80dev::{Job, commands};
 use z80dev_commands::Shared;
@@ -97,21 +97,42 @@ pub(crate) fn program_path(alloc: Global, words: &[Vec<u8>]) -> Option<String> {
     String::from_str(alloc, program_of(&job)?).ok()
 }
 
-/// Whether a path ends as those of source files do.
-fn is_source(path: &str) -> bool {
+/// Whether a path ends in one of these ways, in upper or lower case.
+fn ends_in(path: &str, endings: &[&str]) -> bool {
     match path.rsplit_once('.') {
-        Some((_, ending)) => {
-            ending.eq_ignore_ascii_case("asm")
-                || ending.eq_ignore_ascii_case("mac")
-                || ending.eq_ignore_ascii_case("z80")
-        }
+        Some((_, ending)) => endings.iter().any(|one| ending.eq_ignore_ascii_case(one)),
         None => false,
     }
 }
 
-/// Answers what to do first if these words run a file as a program that looks like a source file. Any file counts as a program, so the command
-/// itself refuses none.
-pub(crate) fn source_note(alloc: Global, words: &[Vec<u8>]) -> Option<String> {
+/// Whether a path ends as those of source files do.
+fn is_source(path: &str) -> bool {
+    ends_in(path, &["asm", "mac", "z80"])
+}
+
+/// Whether a path ends as those of images of disks do.
+fn is_image(path: &str) -> bool {
+    ends_in(path, &["img", "dsk"])
+}
+
+/// Answers which values `--terminal` takes if these words give it another one and ended with this status.
+pub(crate) fn terminal_note(alloc: Global, words: &[Vec<u8>], status: u8) -> Option<&'static str> {
+    if status != USAGE {
+        return None;
+    }
+    let texts = texts_of(alloc, words).ok()?;
+    match commands(alloc, &texts).ok()? {
+        Job::Play(play) => match play.terminal? {
+            "adm3a" | "vt52" | "none" => None,
+            _ => Some("--terminal takes adm3a, vt52 or none; for a program made for a VT100, none"),
+        },
+        _ => None,
+    }
+}
+
+/// Answers what to do first if these words run a file as a program that looks like a source file or an image. Any file counts as a program, so
+/// the command itself refuses none.
+pub(crate) fn program_note(alloc: Global, words: &[Vec<u8>]) -> Option<String> {
     let texts = texts_of(alloc, words).ok()?;
     let job = commands(alloc, &texts).ok()?;
     match program_of(&job) {
@@ -120,6 +141,9 @@ pub(crate) fn source_note(alloc: Global, words: &[Vec<u8>]) -> Option<String> {
         ).ok(),
         Some(path) if is_source(path) => format!(in alloc;
             "{path} looks like a source file: build it first"
+        ).ok(),
+        Some(path) if is_image(path) => format!(in alloc;
+            "{path} looks like an image of a disk: give it with --disk, and then a program"
         ).ok(),
         _ => None,
     }

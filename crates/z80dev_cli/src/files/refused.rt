@@ -44,6 +44,9 @@ impl Refused {
     pub(crate) fn reason(&self, rt: &HostRuntime) -> Option<&'static str> {
         match self.access {
             Access::Read => why_not_read(rt, &self.path),
+            Access::Claim if is_missing(rt, &self.path) => {
+                Some("there is no such file; `z80dev blank` makes an empty image")
+            }
             Access::Claim => why_not_read(rt, &self.path).or_else(|| why_not_locked(
                 rt, &self.path,
             )),
@@ -54,6 +57,17 @@ impl Refused {
             Access::Write => why_not_written(rt, &self.path),
             Access::WriteInput => Some("the command has read this file"),
         }
+    }
+}
+
+/// Whether there is nothing at a path, though there is its folder.
+fn is_missing(rt: &HostRuntime, path: &str) -> bool {
+    match fs::symlink_metadata(rt, path) {
+        Err(error) => match error.kind() {
+            ErrorKind::NotFound => has_folder(rt, path),
+            _ => false,
+        },
+        Ok(_) => false,
     }
 }
 
