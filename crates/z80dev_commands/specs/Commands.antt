@@ -218,8 +218,8 @@ abbrev pub AreParsed : List Text → Type 0
 AreParsed words = fault_of z80dev words ≡ []
 
 -- the value of the argument is this text
-abbrev pub HasValue : Text → Bor Text → List Row → Type 0
-HasValue id value rows = first_of id rows ≡ Some value.now
+abbrev pub FindsFirst : Text → Bor Text → List Row → Type 0
+FindsFirst id value rows = first_of id rows ≡ Some value.now
 
 -- the values of the argument are these texts, in this order
 abbrev pub FindsAll : Text → List (Bor Text) → List Row → Type 0
@@ -286,7 +286,7 @@ FindsTelling telling rows = FindsIfGiven (codes "SYM") telling.labels rows × (i
 
 -- the image that a command changes, with the user and whether it is locked
 abbrev pub FindsTarget : Target → List Row → Type 0
-FindsTarget target rows = HasValue (codes "IMG") target.image rows × FindsUserOrZero target.user rows × FindsLock target.lock rows
+FindsTarget target rows = FindsFirst (codes "IMG") target.image rows × FindsUserOrZero target.user rows × FindsLock target.lock rows
 
 -- whether files are replaced, and whether they are put as texts
 abbrev pub FindsManner : Manner → List Row → Type 0
@@ -307,32 +307,32 @@ Meets met name Holds = (rows : List Row) × (met ≡ Some (name, rows)) × Holds
 
 -- The job on a disk of the command that a parse found, with the values of its arguments.
 abbrev pub IsDiskJobOf : Option (Text × List Row) → DiskJob → Type 0
-IsDiskJobOf met (on.Dir dir) = Meets met (codes "dir") (λ rows. HasValue (codes "IMG") dir.image rows
+IsDiskJobOf met (on.Dir dir) = Meets met (codes "dir") (λ rows. FindsFirst (codes "IMG") dir.image rows
     × FindsUser dir.user rows × (is_on (codes "long") rows ≡ dir.long) × FindsIfGiven (codes "NAME") dir.name rows)
 IsDiskJobOf met (on.Put put) = Meets met (codes "put") (λ rows. (is_on (codes "to") rows ≡ false)
-    × FindsTarget put.target rows × FindsManner put.manner rows × HasValue (codes "FILE") put.file rows × FindsOnly (codes "NAME") put.name rows)
+    × FindsTarget put.target rows × FindsManner put.manner rows × FindsFirst (codes "FILE") put.file rows × FindsOnly (codes "NAME") put.name rows)
 IsDiskJobOf met (on.PutAll put) = Meets met (codes "put") (λ rows. (is_on (codes "to") rows ≡ true)
     × FindsTarget put.target rows × FindsManner put.manner rows × FindsJoined (codes "FILE") (codes "NAME") put.files.items rows)
 IsDiskJobOf met (on.Get get) = Meets met (codes "get") (λ rows. (is_on (codes "all") rows ≡ false)
-    × HasValue (codes "IMG") get.image rows × FindsUserOrZero get.user rows × (is_on (codes "text") rows ≡ get.text)
-    × HasValue (codes "NAME") get.name rows × FindsOnly (codes "FILE") get.file rows)
+    × FindsFirst (codes "IMG") get.image rows × FindsUserOrZero get.user rows × (is_on (codes "text") rows ≡ get.text)
+    × FindsFirst (codes "NAME") get.name rows × FindsOnly (codes "FILE") get.file rows)
 IsDiskJobOf met (on.GetAll get) = Meets met (codes "get") (λ rows. (is_on (codes "all") rows ≡ true)
-    × HasValue (codes "IMG") get.image rows × FindsUserOrZero get.user rows × (is_on (codes "text") rows ≡ get.text)
-    × HasValue (codes "NAME") get.folder rows × FindsAny (codes "FILE") [] rows)
+    × FindsFirst (codes "IMG") get.image rows × FindsUserOrZero get.user rows × (is_on (codes "text") rows ≡ get.text)
+    × FindsFirst (codes "NAME") get.folder rows × FindsAny (codes "FILE") [] rows)
 IsDiskJobOf met (on.Erase erase) = Meets met (codes "erase") (λ rows. FindsTarget erase.target rows × FindsAll (codes "NAME") erase.names.items rows)
 IsDiskJobOf met (on.Rename rename) = Meets met (codes "rename") (λ rows. FindsTarget rename.target rows
-    × HasValue (codes "OLD") rename.old rows × HasValue (codes "NEW") rename.new rows)
+    × FindsFirst (codes "OLD") rename.old rows × FindsFirst (codes "NEW") rename.new rows)
 IsDiskJobOf met (on.Protect protect) = Meets met (protect_name protect.on) (λ rows. FindsTarget protect.target rows
     × (is_on (codes "system") rows ≡ is_system_attribute protect.attribute) × FindsAll (codes "NAME") protect.names.items rows)
-IsDiskJobOf met (on.Check image) = Meets met (codes "check-disk") (λ rows. HasValue (codes "IMG") image rows)
+IsDiskJobOf met (on.Check image) = Meets met (codes "check-disk") (λ rows. FindsFirst (codes "IMG") image rows)
 IsDiskJobOf met (on.Blank blank) = Meets met (codes "blank") (λ rows. (is_on (codes "mega") rows ≡ blank.mega)
-    × (is_on (codes "keep") rows ≡ blank.keep) × FindsLock blank.lock rows × HasValue (codes "IMG") blank.image rows)
+    × (is_on (codes "keep") rows ≡ blank.keep) × FindsLock blank.lock rows × FindsFirst (codes "IMG") blank.image rows)
 
 -- The job of the command that a parse found, with the values of its arguments.
 abbrev pub IsJobOf : Option (Text × List Row) → Job → Type 0
 IsJobOf met Pipe = met ≡ None
 IsJobOf met (Asm asm) = Meets met (codes "asm") (λ rows. FindsIfGiven (codes "BASE") asm.out rows
-    × (is_on (codes "grow") rows ≡ asm.grow) × (is_on (codes "no-warn") rows ≡ not asm.warn) × FindsShared asm.shared rows × HasValue (codes "SRC") asm.source rows)
+    × (is_on (codes "grow") rows ≡ asm.grow) × (is_on (codes "no-warn") rows ≡ not asm.warn) × FindsShared asm.shared rows × FindsFirst (codes "SRC") asm.source rows)
 IsJobOf met (Link link) = Meets met (codes "link") (λ rows. FindsIfGiven (codes "BASE") link.out rows
     × (is_on (codes "map") rows ≡ link.map) × FindsIfGiven (codes "FORM") link.symbols rows × FindsAll (codes "OBJ") link.objects.items rows)
 IsJobOf met (Build build) = Meets met (codes "build") (λ rows. FindsIfGiven (codes "BASE") build.out rows
@@ -342,18 +342,18 @@ IsJobOf met (Build build) = Meets met (codes "build") (λ rows. FindsIfGiven (co
 IsJobOf met (Explain explain) = Meets met (codes "explain") (λ rows. (is_on (codes "grow") rows ≡ explain.grow)
     × (is_on (codes "jumps") rows ≡ explain.jumps) × (is_on (codes "json") rows ≡ explain.json) × FindsIfGiven (codes "WHEN") explain.color rows
     × FindsShared explain.shared rows × FindsAll (codes "SRC") explain.sources.items rows)
-IsJobOf met (Check check) = Meets met (codes "check") (λ rows. HasValue (codes "SIZES") check.sizes rows × HasValue (codes "CERT") check.cert rows)
+IsJobOf met (Check check) = Meets met (codes "check") (λ rows. FindsFirst (codes "SIZES") check.sizes rows × FindsFirst (codes "CERT") check.cert rows)
 IsJobOf met (Dis dis) = Meets met (codes "dis") (λ rows. FindsIfGiven (codes "SYM") dis.labels rows
-    × FindsAny (codes "ADDR") dis.entries.items rows × FindsAny (codes "DATA") dis.data_starts.items rows × HasValue (codes "COM") dis.program rows)
+    × FindsAny (codes "ADDR") dis.entries.items rows × FindsAny (codes "DATA") dis.data_starts.items rows × FindsFirst (codes "COM") dis.program rows)
 IsJobOf met (Disk job) = IsDiskJobOf met job
 IsJobOf met (Run run) = Meets met (codes "run") (λ rows. FindsIfGiven (codes "IMG") run.disk rows
-    × FindsLock run.lock rows × FindsNumber (codes "N") run.steps rows × FindsTelling run.telling rows × HasValue (codes "COM") run.program rows × FindsAny (codes "WORD") run.words.items rows)
+    × FindsLock run.lock rows × FindsNumber (codes "N") run.steps rows × FindsTelling run.telling rows × FindsFirst (codes "COM") run.program rows × FindsAny (codes "WORD") run.words.items rows)
 IsJobOf met (Debug debugging) = Meets met (codes "debug") (λ rows. FindsIfGiven (codes "IMG") debugging.disk rows
     × FindsIfGiven (codes "FILE") debugging.input rows × FindsIfGiven (codes "REC") debugging.replay rows × FindsIfGiven (codes "SYM") debugging.labels rows × FindsIfGiven (codes "LST") debugging.list rows
-    × HasValue (codes "COM") debugging.program rows × FindsAny (codes "WORD") debugging.words.items rows)
+    × FindsFirst (codes "COM") debugging.program rows × FindsAny (codes "WORD") debugging.words.items rows)
 IsJobOf met (Play play) = Meets met (codes "play") (λ rows. FindsIfGiven (codes "IMG") play.disk rows × FindsLock play.lock rows
     × FindsNumber (codes "N") play.steps rows × (is_on (codes "raw") rows ≡ play.raw) × FindsIfGiven (codes "CODES") play.terminal rows
-    × FindsIfGiven (codes "FILE") play.record rows × FindsIfGiven (codes "REC") play.replay rows × HasValue (codes "COM") play.program rows × FindsAny (codes "WORD") play.words.items rows)
+    × FindsIfGiven (codes "FILE") play.record rows × FindsIfGiven (codes "REC") play.replay rows × FindsFirst (codes "COM") play.program rows × FindsAny (codes "WORD") play.words.items rows)
 
 -- The words are parsed without an error, and the job is that of the command that they name, with the values that the parse found.
 abbrev pub IsJob : List Text → Job → Type 0

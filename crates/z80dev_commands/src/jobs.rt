@@ -2,7 +2,7 @@
 
 ghost use Rattle.std.specs.Prelude.{◌≡◌, ◌∷◌, [], true, IfOk, MatchResult, Some, codes, is_some, length, map, not};
 ghost use Rattle.clap.specs.Words.{all_of, first_of, found_of, kind_of, rows_of};
-ghost use Rattle.z80dev_commands.specs.Commands.{HasValue, FindsAll, FindsAny, FindsIfGiven, FindsLock, FindsManner, FindsNumber, FindsShared, FindsTarget, FindsUser, FindsUserOrZero, IsJobOf, Miscounts, FindsLast, FindsTelling, is_on, is_system_attribute, protect_name};
+ghost use Rattle.z80dev_commands.specs.Commands.{FindsFirst, FindsAll, FindsAny, FindsIfGiven, FindsLock, FindsManner, FindsNumber, FindsShared, FindsTarget, FindsUser, FindsUserOrZero, IsJobOf, Miscounts, FindsLast, FindsTelling, is_on, is_system_attribute, protect_name};
 ghost use Rattle.z80dev_commands.specs.Private.{AreFound, HasTarget, IsFlag, IsNumber, IsRefused};
 
 use crate::job::{
@@ -26,7 +26,7 @@ const NO_FILE: &str = "with --all, get takes IMG and one FOLDER";
 /// The value of an argument that is sure to have one.
 fn text<'a>(found: &ArgMatches<'a>, id: &str) -> &'a str
     requires { is_some (first_of id.now (rows_of (found_of found.now))) ≡ true }
-    ensures { HasValue id.now result (rows_of (found_of found.now)) }
+    ensures { FindsFirst id.now result (rows_of (found_of found.now)) }
 {
     found.get_str(id).unwrap()
 }
