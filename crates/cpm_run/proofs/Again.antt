@@ -399,7 +399,7 @@ module _ {S : Type 0} (sectors : S → Image) (faults : S → ℕ) (one_step : O
   -- what the law says of a session and of the same session again
   abbrev Repeated : List ℕ → List (List ℕ) → Mounted S → Mounted S → Mounted S → ℕ → ℕ → ℕ → ℕ → PlayEnd → PlayEnd → List Arrival → List Arrival → Seat → Seat → Seat → Seat → Type 0
   Repeated file words disk left there turns steps pc address end cause arrivals came before after seat screen =
-      (cause ≡ end) × (steps ≡ turns) × (address ≡ pc) × AlikeDisks sectors left there × (came ≡ arrivals) × SameShown (IsEchoAfter sectors faults file words disk turns) end before after seat screen
+      (cause ≡ end) × (steps ≡ turns) × (address ≡ pc) × AlikeDisks sectors left there × (came ≡ arrivals) × SameShown (IsEchoAfter sectors faults file words disk turns arrivals) end before after seat screen
 
   -- a session that the person left came to its last state
   left_in : (limit : ℕ) (start : PlayState S) (end : PlayEnd) (new : PlayState S) → PlayEnds sectors faults limit start end new → end ≡ play.Left → PlaysOn sectors faults start new
@@ -435,8 +435,8 @@ module _ {S : Type 0} (sectors : S → Image) (faults : S → ℕ) (one_step : O
         k.7 ∙ ap (λ (m : Machine). m.cpu.pc) both.2 ∙ sym h.7,
         subst (AlikeDisks sectors left) (sym k.8) (subst (λ (d : Mounted S). AlikeDisks sectors d b.run.system.disk) (sym h.8) both.3),
         all,
-        same_shown sectors (IsEchoAfter sectors faults file words disk turns) end cause before after seat screen a b calm quiet h.11 k.10 alike
-            (λ echo e is. (h.0, h.1, a, h.3, left_in limit (first_state h.0 h.1 disk) end a h.4 e, h.5, is)),
+        same_shown sectors (IsEchoAfter sectors faults file words disk turns arrivals) end cause before after seat screen a b calm quiet h.11 k.10 alike
+            (λ echo e is. (h.0, h.1, a, h.3, left_in limit (first_state h.0 h.1 disk) end a h.4 e, h.5, h.9, is)),
       )
   replayed_alike file words disk other left there limit turns steps pc address before after seat screen end cause arrivals came disks calm quiet (inl h) (inr k) =
       not_both file words (h.0, h.1) k.0 (had_memory_then k.0 cause k.2 quiet) h.3 k.1
@@ -449,5 +449,5 @@ module _ {S : Type 0} (sectors : S → Image) (faults : S → ℕ) (one_step : O
         k.4 ∙ sym h.4,
         subst (AlikeDisks sectors left) (sym k.5) (subst (λ d. AlikeDisks sectors d other) (sym h.5) disks),
         k.6 ∙ sym h.6,
-        none_shown (IsEchoAfter sectors faults file words disk turns) end (unstarted h.0) before after seat screen h.2 h.7 k.7,
+        none_shown (IsEchoAfter sectors faults file words disk turns arrivals) end (unstarted h.0) before after seat screen h.2 h.7 k.7,
       )

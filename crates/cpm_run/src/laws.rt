@@ -75,7 +75,7 @@ pub fn replayed_alike<S: Sectors>()
         AlikeDisks S.sectors disk other → EndsUndisturbed end → EndsUndisturbed cause →
         IsPlayed S.sectors S.faults file words disk limit before end turns pc left arrivals after →
         IsReplayed S.sectors S.faults file words other limit arrivals turns seat cause steps address there came screen →
-        (cause ≡ end) × (steps ≡ turns) × (address ≡ pc) × AlikeDisks S.sectors left there × (came ≡ arrivals) × SameShown (IsEchoAfter S.sectors S.faults file words disk turns) end before after seat screen }
+        (cause ≡ end) × (steps ≡ turns) × (address ≡ pc) × AlikeDisks S.sectors left there × (came ≡ arrivals) × SameShown (IsEchoAfter S.sectors S.faults file words disk turns arrivals) end before after seat screen }
 {
     z80_machine::laws::one_turn();
 }
