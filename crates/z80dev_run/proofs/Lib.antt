@@ -6,3 +6,4 @@ mod Leaving
 mod Printed
 mod Debugged_so
 mod Loud
+mod Late

@@ -1,7 +1,7 @@
 -- To what the answers of somebody at standard input and standard output are owed.
 use Rattle.std.specs.Prelude.{◌≡◌, ◌≢◌, ◌<◌, ◌+◌, ◌⊎◌, ℕ, Bool, false, true, List, Option, Result, Ok, Err, length}
 use Rattle.std.specs.Io.KnownBytes.{IsAtEnd}
-use Rattle.host.specs.Streams.Stream.{counted}
+use Rattle.host.specs.Streams.Stream.{Stream, counted}
 use Rattle.cpm_console.specs.Seat.{SeatEvent}
 use Rattle.cpm_console.specs.declared.station.Came.{Came}
 use Rattle.cpm_console.specs.declared.station.Came.TheVariants as came
@@ -28,11 +28,11 @@ pub record DeskCounts : Type 0 where
   pub interruptions : ℕ
   pub failed : Bool
   pub left : Option (List ℕ)
-  pub failures : ℕ
+  pub output : Stream
 
-abbrev pub counts_of : {I S : Type 0} → DeskState I S → ℕ → ℕ → Bool → Option (List ℕ) → ℕ → DeskCounts
-counts_of d reads interruptions failed left failures =
-    record { keys = d.keys; codes = d.screen.codes; rhythm = d.rhythm; state = d.state; reads = reads; interruptions = interruptions; failed = failed; left = left; failures = failures }
+abbrev pub counts_of : {I S : Type 0} → DeskState I S → ℕ → ℕ → Bool → Option (List ℕ) → Stream → DeskCounts
+counts_of d reads interruptions failed left output =
+    record { keys = d.keys; codes = d.screen.codes; rhythm = d.rhythm; state = d.state; reads = reads; interruptions = interruptions; failed = failed; left = left; output = output }
 
 -- Standard input was read once, and can be read again.
 pub record ReadsOnce (old new : DeskCounts) : Type 0 where
@@ -52,15 +52,16 @@ abbrev pub LookOwes : DeskCounts → DeskCounts → Result Came StationFault →
 LookOwes old new (Ok (came.Bytes count)) = ReadsOnce old new × (count ≡ 0 → (new.interruptions ≡ old.interruptions + 1) ⊎ ((old.keys ≡ keys.Raw) × IsAtEnd new.left))
 LookOwes old new (Ok came.Leave) = ReadsOnce old new
 LookOwes old new (Ok came.End) = (old.keys ≢ keys.Raw) × IsAtEnd new.left × (new.state ≡ state.Ended) × IsByOneRead state.Ended old new
-LookOwes old new (Err fault) = ((new.failed ≡ true) × (new.state ≡ state.Failed) × IsByOneRead state.Failed old new) ⊎ ((new.reads ≡ 4294967296) × (new ≡ record old { rhythm = new.rhythm }))
+LookOwes old new (Err fault) = ((new.failed ≡ true) × (new.state ≡ state.Failed) × IsByOneRead state.Failed old new) ⊎ ((old.state ≡ state.Open) × (new.reads ≡ 4294967296) × (new ≡ record old { rhythm = new.rhythm }))
 
 -- To what an answer of a desk is owed. A look that is not due answers no byte and reads nothing. For one that is due, standard input was read. Bytes are
 -- shown if no write failed. If the screen did not take them, a write failed, or memory ran out for what the screen codes turn them into, which
 -- bytes that are shown as they are do not need.
 abbrev pub DeskOwes : DeskCounts → DeskCounts → SeatEvent → Type 0
-DeskOwes old new (SeatEvent.asked turns patience answer) = (new.keys ≡ old.keys) × (new.codes ≡ old.codes) × (new.failures ≡ old.failures)
+DeskOwes old new (SeatEvent.asked turns patience answer) = (new.keys ≡ old.keys) × (new.codes ≡ old.codes) × (new.output ≡ old.output)
     × (((is_read_due old.keys old.rhythm turns patience ≡ false) × (answer ≡ Ok (came.Bytes 0)) × (new ≡ record old { rhythm = rhythm_after_asking old.keys old.rhythm turns patience }))
     ⊎ ((is_read_due old.keys old.rhythm turns patience ≡ true) × (new.rhythm ≡ rhythm_after_look turns answer) × LookOwes old new answer))
-DeskOwes old new (SeatEvent.showed bytes) = new ≡ record old { rhythm = rhythm_after_showing bytes old.rhythm }
-DeskOwes old new (SeatEvent.not_showed bytes) = (new ≡ record old { rhythm = rhythm_after_showing bytes old.rhythm; failures = new.failures }) × (0 < length bytes)
-    × ((new.failures ≡ counted old.failures) ⊎ ((old.codes ≢ Plain) × (new.failures ≡ old.failures)))
+DeskOwes old new (SeatEvent.showed bytes) = (new ≡ record old { rhythm = rhythm_after_showing bytes old.rhythm; output = new.output }) × (new.output.failures ≡ old.output.failures)
+    × (0 < length bytes → new.output.held ≡ false)
+DeskOwes old new (SeatEvent.not_showed bytes) = (new ≡ record old { rhythm = rhythm_after_showing bytes old.rhythm; output = new.output }) × (0 < length bytes)
+    × ((new.output.failures ≡ counted old.output.failures) ⊎ ((old.codes ≢ Plain) × (new.output ≡ old.output)))

@@ -73,7 +73,7 @@ impl<I: Input, S: Sink> Model for Desk<I, S> {
 
     ghost view = { λ d. record { input = d.input; output = d.output; screen = d.screen; keys = d.keys; rhythm = d.rhythm; state = d.state; is_leaving = d.is_leaving } };
 
-    ghost invariant = { λ d. (d.state ≡ Open → I.failed d.input ≡ false) × (d.state ≡ Failed → I.failed d.input ≡ true) × (d.state ≡ Ended → IsAtEnd (I.remaining d.input)) × (d.keys ≡ Raw → d.state ≢ Ended) × (I.reads d.input ≡ d.reads) × (d.reads ≤ MOST_LISTENS) };
+    ghost invariant = { λ d. (d.state ≡ Open → I.failed d.input ≡ false) × (d.state ≡ Failed → I.failed d.input ≡ true) × (d.state ≡ Ended → IsAtEnd (I.remaining d.input)) × (d.keys ≡ Raw → d.state ≢ Ended) × (I.reads d.input ≡ d.reads) × (d.reads ≤ MOST_LISTENS) × (d.rhythm.allowance ≤ 1048576) };
 }
 
 /// Whether the key Ctrl-\ is pressed twice, given whether it was the last key before these.
@@ -184,7 +184,7 @@ impl<I: Input, S: Sink> Desk<I, S> {
         ensures keys { self.new.keys ≡ self.old.keys }
         ensures screen { self.new.screen ≡ self.old.screen }
         ensures output { self.new.output ≡ self.old.output }
-        ensures owed { LookOwes (counts_of self.old (I.reads self.old.input) (I.interruptions self.old.input) (I.failed self.old.input) (I.remaining self.old.input) (S.stream self.old.output).failures) (counts_of self.new (I.reads self.new.input) (I.interruptions self.new.input) (I.failed self.new.input) (I.remaining self.new.input) (S.stream self.new.output).failures) result }
+        ensures owed { LookOwes (counts_of self.old (I.reads self.old.input) (I.interruptions self.old.input) (I.failed self.old.input) (I.remaining self.old.input) (S.stream self.old.output)) (counts_of self.new (I.reads self.new.input) (I.interruptions self.new.input) (I.failed self.new.input) (I.remaining self.new.input) (S.stream self.new.output)) result }
     {
         self.rhythm.read_at(turns);
         match self.state {
@@ -227,7 +227,7 @@ impl<I: Input, S: Sink> Desk<I, S> {
             → (result ≡ Ok (came.Bytes 0)) × (self.new ≡ record self.old { rhythm = rhythm_after_asking self.old.keys self.old.rhythm turns patience }) }
         ensures due { 0 < length buffer.old → is_read_due self.old.keys self.old.rhythm turns patience ≡ true
             → (self.new.rhythm ≡ rhythm_after_look turns result) × HasRead result (I.reads self.old.input) (I.reads self.new.input) }
-        ensures owed { 0 < length buffer.old → DeskOwes (counts_of self.old (I.reads self.old.input) (I.interruptions self.old.input) (I.failed self.old.input) (I.remaining self.old.input) (S.stream self.old.output).failures) (counts_of self.new (I.reads self.new.input) (I.interruptions self.new.input) (I.failed self.new.input) (I.remaining self.new.input) (S.stream self.new.output).failures) (SeatEvent.asked turns patience result) }
+        ensures owed { 0 < length buffer.old → DeskOwes (counts_of self.old (I.reads self.old.input) (I.interruptions self.old.input) (I.failed self.old.input) (I.remaining self.old.input) (S.stream self.old.output)) (counts_of self.new (I.reads self.new.input) (I.interruptions self.new.input) (I.failed self.new.input) (I.remaining self.new.input) (S.stream self.new.output)) (SeatEvent.asked turns patience result) }
     {
         // A read into a buffer without room gives nothing, which would look like the end of the input.
         if buffer.is_empty() || !self.is_due(turns, patience) {
@@ -240,7 +240,7 @@ impl<I: Input, S: Sink> Desk<I, S> {
     fn show_bytes(&mut self, bytes: &[u8]) -> Result<(), StationFault>
         ensures shows { TriesToShow bytes.now (desk_seat self.old (I.remaining self.old.input) (S.stream self.old.output).bytes) (desk_seat self.new (I.remaining self.new.input) (S.stream self.new.output).bytes) result }
         ensures rhythm { self.new.rhythm ≡ rhythm_after_showing bytes.now self.old.rhythm }
-        ensures owed { DeskOwes (counts_of self.old (I.reads self.old.input) (I.interruptions self.old.input) (I.failed self.old.input) (I.remaining self.old.input) (S.stream self.old.output).failures) (counts_of self.new (I.reads self.new.input) (I.interruptions self.new.input) (I.failed self.new.input) (I.remaining self.new.input) (S.stream self.new.output).failures) (shown_event bytes.now result) }
+        ensures owed { DeskOwes (counts_of self.old (I.reads self.old.input) (I.interruptions self.old.input) (I.failed self.old.input) (I.remaining self.old.input) (S.stream self.old.output)) (counts_of self.new (I.reads self.new.input) (I.interruptions self.new.input) (I.failed self.new.input) (I.remaining self.new.input) (S.stream self.new.output)) (shown_event bytes.now result) }
     {
         if bytes.is_empty() {
             return Ok(());
@@ -269,7 +269,7 @@ impl<I: Input, S: Sink> Station for Desk<I, S> {
 
     ghost seat = { λ d. seat_of d.screen.codes d.screen.pending d.keys d.is_leaving (I.remaining d.input) (S.stream d.output).bytes };
 
-    ghost owes = { λ old new event. DeskOwes (counts_of old (I.reads old.input) (I.interruptions old.input) (I.failed old.input) (I.remaining old.input) (S.stream old.output).failures) (counts_of new (I.reads new.input) (I.interruptions new.input) (I.failed new.input) (I.remaining new.input) (S.stream new.output).failures) event };
+    ghost owes = { λ old new event. DeskOwes (counts_of old (I.reads old.input) (I.interruptions old.input) (I.failed old.input) (I.remaining old.input) (S.stream old.output)) (counts_of new (I.reads new.input) (I.interruptions new.input) (I.failed new.input) (I.remaining new.input) (S.stream new.output)) event };
 
     fn listen(
         &mut self,

@@ -1,6 +1,6 @@
 //! Laws of what is printed, and of when the keyboard is read, as functions that do nothing.
 
-ghost use Rattle.std.specs.Prelude.{◌≡◌, ◌<◌, ◌≤◌, ◌^◌, ℕ, true, All, List, length, sum};
+ghost use Rattle.std.specs.Prelude.{◌≡◌, ◌<◌, ◌≤◌, ◌+◌, ◌^◌, ℕ, true, All, List, length, sum};
 ghost use Rattle.std.specs.List.{concat};
 ghost use Rattle.cpm_run.specs.Records.{CountsAre};
 ghost use Rattle.cpm_run.specs.declared.arriving.Arrival.{Arrival};
@@ -28,4 +28,10 @@ pub fn counts_add_up()
 pub fn loud_glance_reads()
     ensures reads { (r : Rhythm) (shown : List (List ℕ)) (turns : ℕ) → r.allowance ≤ 1048576 → 1048576 ≤ length (concat shown) → is_read_due keys.Raw (rhythm_after_all shown r) turns how.Glance ≡ true }
     ensures between { (r : Rhythm) (turns : ℕ) (patience : Patience) → rhythm_after_asking keys.Raw r turns patience ≡ r }
+{}
+
+/// Whenever a session glances at the keyboard 2,000,000 steps after its last look, a desk whose keys come as they are pressed reads it, if the
+/// desk's own last read was no later than that look.
+pub fn late_glance_reads()
+    ensures { (r : Rhythm) (last turns : ℕ) → r.paused ≤ last → last + 2000000 ≤ turns → is_read_due keys.Raw r turns how.Glance ≡ true }
 {}
