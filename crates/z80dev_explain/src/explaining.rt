@@ -1,8 +1,7 @@
 //! Explains why sources have no program, or what to look at in the one that they have.
 
-ghost use Rattle.std.specs.Prelude.{◌≡◌, ◌+◌, ℕ, All, IfOk, List, Ok, length, map, option_copied, true};
+ghost use Rattle.std.specs.Prelude.{◌≡◌, ◌<◌, ◌+◌, ℕ, All, IfOk, List, Ok, length, map, option_copied, true};
 ghost use Rattle.std.specs.List.{AllZip, list_any, sum_by};
-ghost use Rattle.report_texts.specs.Faults.Refusals.{told_text};
 ghost use Rattle.report_texts.specs.Front.{CountsLines, front_lines};
 ghost use Rattle.zmo_object.specs.Modules.{module_of};
 ghost use Rattle.zmo_object.specs.Rules.{IsModule};
@@ -15,7 +14,7 @@ ghost use Rattle.z80dev_explain.specs.Reports.{is_report_of};
 
 use crate::errors::{put_errors, report_of};
 use crate::gathering::Gathered;
-use crate::shared::{has_refusal, put_unshared, with_refusal};
+use crate::shared::{put_told, put_unshared};
 use asm_module::{AsmFault, Lines, Module, assemble_with};
 use common::{KeyMixer, NameKey};
 use link_errors::{
@@ -274,21 +273,28 @@ fn explain_behind(
     }
 }
 
-/// Answers all errors that are found in a front.
+/// Answers all errors that are found in a front, given the first of them.
 fn all_of_front(
     alloc: Global,
     sources: &Sources<'_, '_>,
+    told: Told<'_>,
     form: Form,
-) -> Result<Vec<Report>, AllocError> {
+) -> Result<Vec<Report>, AllocError>
+    ensures { IfOk result (λ reports. 0 < length reports.items) }
+{
     let before = front_lines(sources.front);
     let mut gathered = Gathered::new(alloc, key_of(sources), before, most_of(form));
     put_errors(alloc, sources, 0, false, &mut gathered)?;
     let mut reports = gathered.into_reports();
     put_unshared(alloc, sources, &mut reports)?;
-    sorted(reports)
+    let mut reports = sorted(reports)?;
+    if reports.is_empty() {
+        put_told(alloc, told, &mut reports)?;
+    }
+    Ok(reports)
 }
 
-/// Answers the errors of a front, each once, given its text and the error for which building refuses it.
+/// Answers the errors of a front, each once, given its text and the first of them.
 fn front_errors<'a>(
     alloc: Global,
     front: Front<'a>,
@@ -296,7 +302,7 @@ fn front_errors<'a>(
     told: Told<'a>,
     form: Form,
 ) -> Result<Vec<Report>, AllocError>
-    ensures { IfOk result (λ reports. AreFrontErrors front.entry (told_text told) reports.items) }
+    ensures { IfOk result (λ reports. AreFrontErrors front.entry reports.items) }
 {
     let mut texts = Vec::new(alloc);
     texts.push(before)?;
@@ -308,14 +314,9 @@ fn front_errors<'a>(
         texts: &texts,
         lines: &lines,
     };
-    let all = all_of_front(alloc, &sources, form)?;
+    let all = all_of_front(alloc, &sources, told, form)?;
     let once = without_repeats(alloc, key_of(&sources), front_lines(front), all)?;
-    let said = format!(in alloc; "{told}")?;
-    // It is among them, since they are found by the same rules. No clause says that, so it is looked for.
-    if has_refusal(alloc, front, &said, &once)? {
-        return Ok(once);
-    }
-    with_refusal(alloc, front, said, once)
+    Ok(once)
 }
 
 /// Builds sources after a front, writes nothing, and answers their errors, in the order of the sources and their lines; or if there are none,

@@ -1,13 +1,10 @@
 //! Reports the errors of shared files.
 
-ghost use Rattle.std.specs.Prelude.{◌≡◌, ℕ, IfOk, string_bytes, true};
-ghost use Rattle.std.specs.List.{list_any};
-ghost use Rattle.report_texts.specs.Repeats.{HasNoRepeats};
-ghost use Rattle.z80dev_explain.specs.Reports.{is_of_refusal, front_refusal};
+ghost use Rattle.std.specs.Prelude.{◌<◌, OnOk, length};
 
 use asm_module::{SourceLine, read_source};
 use error_messages::Note;
-use report_texts::{Front, Located, Report, Severity, is_shared, locate};
+use report_texts::{Report, Severity, Told, is_shared};
 use std::alloc::{AllocError, Global};
 use written_lines::Sources;
 
@@ -46,69 +43,20 @@ pub(crate) fn put_unshared(
     Ok(())
 }
 
-/// Answers the text by which building refuses a front for the error of a report.
-fn front_refusal(alloc: Global, front: Front<'_>, report: &Report) -> Result<String, AllocError>
-    ensures { IfOk result (λ text. string_bytes text ≡ front_refusal front.entry (string_bytes report.now.name) report.now.at) }
-{
-    let name = &report.name;
-    let line = match &report.at {
-        Some(at) => at.reported,
-        None => return String::from_str(alloc, name),
-    };
-    if let Some(word) = front.defines.get(line.saturating_sub(1) as usize) {
-        return format!(in alloc; "--define {word}: {name}");
-    }
-    let Located { path, line } = locate(front, "", line);
-    format!(in alloc; "{path}({line}): {name}")
-}
-
-/// Whether a report is of the error for which building refuses a front with this text.
-fn is_of_refusal(
+/// Appends the report of the first error of a front, about which nothing else is known.
+pub(crate) fn put_told(
     alloc: Global,
-    front: Front<'_>,
-    said: &str,
-    report: &Report,
-) -> Result<bool, AllocError>
-    ensures { IfOk result (λ is_so. is_so ≡ is_of_refusal front.entry said.now report.now) }
+    told: Told<'_>,
+    reports: &mut Vec<Report>,
+) -> Result<(), AllocError>
+    ensures { OnOk result (0 < length reports.new.items) }
 {
-    let text = front_refusal(alloc, front, report)?;
-    Ok(report.severity == Severity::Error && text.as_bytes() == said.as_bytes())
-}
-
-/// Whether one of the reports is of the error for which building refuses a front with this text.
-pub(crate) fn has_refusal(
-    alloc: Global,
-    front: Front<'_>,
-    said: &str,
-    reports: &[Report],
-) -> Result<bool, AllocError>
-    ensures { IfOk result (λ has. has ≡ list_any (is_of_refusal front.entry said.now) reports.now) }
-{
-    for report in reports {
-        if is_of_refusal(alloc, front, said, report)? {
-            return Ok(true);
-        }
-    }
-    Ok(false)
-}
-
-/// Answers reports and one more behind them, which says no more than the text by which building refuses a front.
-pub(crate) fn with_refusal(
-    alloc: Global,
-    front: Front<'_>,
-    said: String,
-    reports: Vec<Report>,
-) -> Result<Vec<Report>, AllocError>
-    ensures has { IfOk result (λ all. list_any (is_of_refusal front.entry (string_bytes said.entry)) all.items ≡ true) }
-    ensures distinct { IfOk result (λ all. (before : ℕ) → HasNoRepeats before reports.entry.items → HasNoRepeats before all.items) }
-{
-    let mut all = reports;
-    all.push(Report {
+    reports.push(Report {
         severity: Severity::Error,
         at: None,
         text: String::from_str(alloc, "the shared files have an error")?,
-        name: said,
+        name: format!(in alloc; "{told}")?,
         notes: Vec::new(alloc),
     })?;
-    Ok(all)
+    Ok(())
 }
