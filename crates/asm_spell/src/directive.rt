@@ -43,6 +43,12 @@ pub(crate) enum Directive {
     Equ,
 }
 
+/// The words of all directives but EQU, which a name comes before. `explain` looks among them for the word that somebody meant.
+pub const DIRECTIVES: [&str; 14] = [
+    "DB", "DEFB", "DEFM", "DW", "DEFW", "DS", "DEFS", "PUBLIC", "GLOBAL", "EXTRN", "EXTERNAL",
+    "ORG", "END", ".Z80",
+];
+
 /// The directive that a word of two letters names, if it names one.
 fn of_two(name: &[u8]) -> Option<Directive>
     ensures { option_map directs result ≡ lookup (str_eq_ignore_ascii_case name.now) choices.of_two }

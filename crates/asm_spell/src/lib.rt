@@ -15,6 +15,7 @@ mod operand;
 mod spelling;
 
 pub use asm_parse::{KeptName, is_name};
+pub use directive::DIRECTIVES;
 pub use fault::StmtFault;
 pub use line::{Body, Line, Value};
 pub use spelling::statement;

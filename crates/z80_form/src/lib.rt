@@ -17,6 +17,6 @@ mod spelling;
 
 pub use field::{Field, field_of, with_number, with_numbers};
 pub use form::{Form, Pointed};
-pub use mnemonic::{Mnemonic, mnemonic_of};
+pub use mnemonic::{MNEMONICS, Mnemonic, mnemonic_of};
 pub use name::{Name, name_of};
 pub use spelling::instruction;

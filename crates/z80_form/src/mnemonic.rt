@@ -56,6 +56,17 @@ pub enum Mnemonic {
     Out,
 }
 
+/// All mnemonics, in upper case: the words for which [`mnemonic_of`] answers one. `explain` looks among them for the word that
+/// somebody meant.
+pub const MNEMONICS: [&str; 67] = [
+    "LD", "PUSH", "POP", "EX", "EXX", "LDI", "LDIR", "LDD", "LDDR", "CPI", "CPIR", "CPD", "CPDR",
+    "INI", "INIR", "IND", "INDR", "OUTI", "OTIR", "OUTD", "OTDR", "ADD", "ADC", "SUB", "SBC",
+    "AND", "XOR", "OR", "CP", "INC", "DEC", "DAA", "CPL", "NEG", "CCF", "SCF", "NOP", "HALT", "DI",
+    "EI", "IM", "RLCA", "RLA", "RRCA", "RRA", "RLC", "RL", "RRC", "RR", "SLA", "SRA", "SRL", "RLD",
+    "RRD", "BIT", "SET", "RES", "JP", "JR", "DJNZ", "CALL", "RET", "RETI", "RETN", "RST", "IN",
+    "OUT",
+];
+
 /// The mnemonic that a word is, in upper or lower case.
 pub fn mnemonic_of(name: &[u8]) -> Option<Mnemonic>
     ensures spelled { (m : Mnemonic) → (result ≡ Some m) ↔ (upper_letters name.now ≡ mnemonic_word m) }

@@ -27,7 +27,9 @@ divided lengths = (0, lengths.0 ∷ lengths.1)
 
 -- The branches of an IF, among the lines after it: the first ends at an ELSE or the ENDIF, and each other follows an ELSE. None if
 -- no ENDIF closes the IF. The numbers say how many bodies are open within the IF, and how many IFs outside of those bodies. A
--- branch contains whole bodies up to their ENDM, and whole IFs up to their ENDIF.
+-- branch contains whole bodies up to their ENDM, and whole IFs up to their ENDIF. The last clause is for every other line, which
+-- makes its branch one line longer: a line without a word of blocks, an ENDM that closes nothing, an ELSE of an inner IF, and within
+-- a body also IF, ELSE and ENDIF.
 abbrev pub branch_lengths : ℕ → ℕ → List Role → Option Lengths
 branch_lengths bodies ifs [] = None
 branch_lengths bodies ifs (Role.OpensBody ∷ roles) = option_map longer (branch_lengths (suc bodies) ifs roles)
