@@ -7,7 +7,7 @@ use Rattle.asm_parse.specs.Expression.{Expression, postfix}
 use Rattle.asm_parse.specs.Source.{Operand, Name, Number, Here}
 use Rattle.asm_parse.specs.Values.Items.{IsExpr}
 use Rattle.asm_expr.specs.Names.{Table, found}
-use Rattle.asm_parse.specs.Values.Postfix.{source, spread, tree}
+use Rattle.asm_parse.specs.Values.Postfix.{source_tree, spread, tree}
 use Rattle.asm_expr.specs.Settling.{divisions_fault, first_of_two, item_known, items_known, known, known_item, reduced, settled, settled_as, standing, too_large, unknown_of, unless_fault}
 use Rattle.asm_expr.specs.Private.Folding.{Folds, fold_all, unless}
 use Rattle.asm_expr.specs.Private.Left.{IsLeft, IsLeftName, IsLeftOperand, IsReducedTree, operand_alone}
@@ -78,7 +78,7 @@ left_same t u items same left =
     record { expr = left.expr; reduced = record { sound = sound; same = fixed } }
 
 -- What such a name is settled as, and such a term.
-left_settled : (t : Table) (name : List ℕ) (items : List (Item Atom)) → IsLeftName t name items → settled t (source (Item.Leaf (Name name) ∷ [])) ≡ Ok (Settled.Known items)
+left_settled : (t : Table) (name : List ℕ) (items : List (Item Atom)) → IsLeftName t name items → settled t (source_tree (Item.Leaf (Name name) ∷ [])) ≡ Ok (Settled.Known items)
 left_settled t name items is =
     let e = known (tree items) in
     let fault : first_of_two (too_large (0 + is.size)) (divisions_fault t e) ≡ None = ap (λ f. first_of_two f (divisions_fault t e)) (not_large (0 + is.size) (omega (arith, is.few))) ∙ is.left.reduced.sound in
@@ -88,7 +88,7 @@ left_settled t name items is =
     ∙ ap (λ xs. Ok (settled_as (items_known xs) (unknown_of e))) (known_items items is.left.expr)
     ∙ ap (λ o. Ok (settled_as o (unknown_of e))) (known_again items)
 
-operand_settled : (t : Table) (o : Operand) (items : List (Item Atom)) → IsLeftOperand t o items → settled t (source (Item.Leaf o ∷ [])) ≡ Ok (Settled.Known items)
+operand_settled : (t : Table) (o : Operand) (items : List (Item Atom)) → IsLeftOperand t o items → settled t (source_tree (Item.Leaf o ∷ [])) ≡ Ok (Settled.Known items)
 operand_settled t (Name name) items is = left_settled t name items is
 operand_settled t (Number n) items is = absurd is
 operand_settled t Here items is = absurd is
@@ -101,5 +101,5 @@ one_operand (Item.Unary op ∷ items) o is = cc
 one_operand (Item.Binary op ∷ items) o is = cc
 
 pub alone_settled : (t : Table) (parsed : List (Item Operand)) (o : Operand) (items : List (Item Atom)) → operand_alone parsed ≡ Some o → IsLeftOperand t o items
-    → settled t (source parsed) ≡ Ok (Settled.Known items)
-alone_settled t parsed o items is left = ap (λ p. settled t (source p)) (one_operand parsed o is) ∙ operand_settled t o items left
+    → settled t (source_tree parsed) ≡ Ok (Settled.Known items)
+alone_settled t parsed o items is left = ap (λ p. settled t (source_tree p)) (one_operand parsed o is) ∙ operand_settled t o items left

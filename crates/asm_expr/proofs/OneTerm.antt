@@ -9,7 +9,7 @@ use Rattle.asm_parse.specs.declared.values.atom.Atom.{Atom}
 use Rattle.asm_expr.specs.declared.meaning.Meaning.{Meaning}
 use Rattle.asm_expr.specs.Alone.{atom_alone, atom_meant, atom_of, atom_number}
 use Rattle.asm_expr.specs.Names.{Table, found}
-use Rattle.asm_parse.specs.Values.Postfix.{source}
+use Rattle.asm_parse.specs.Values.Postfix.{source_tree}
 use Rattle.asm_expr.specs.Settling.{divisions_fault, first_of_two, items_known, meant, reduced, settled, settled_as, size_meant, too_large, unknown_of, unless_fault}
 
 -- what is answered for a name that stands for this
@@ -25,12 +25,12 @@ by_meaning t (Some (Meaning.Equ equated)) a e = absurd cc
 by_meaning t (Some Meaning.Faulty) a e = absurd cc
 by_meaning t None a e = absurd cc
 
-by_operand : (t : Table) (o : Operand) (a : Atom) → atom_of t o ≡ Some a → settled t (source (Item.Leaf o ∷ [])) ≡ Ok (Settled.Known (Item.Leaf a ∷ []))
+by_operand : (t : Table) (o : Operand) (a : Atom) → atom_of t o ≡ Some a → settled t (source_tree (Item.Leaf o ∷ [])) ≡ Ok (Settled.Known (Item.Leaf a ∷ []))
 by_operand t (Number n) a e = let is : Atom.Number n ≡ a = cc in ap (λ x. Ok (Settled.Known (Item.Leaf x ∷ []))) is
 by_operand t (Name name) a e = by_meaning t (found t name) a e
 by_operand t Here a e = let is : Atom.Ref t.here ≡ a = cc in ap (λ x. Ok (Settled.Known (Item.Leaf x ∷ []))) is
 
-pub alone_settled : (t : Table) (items : List (Item Operand)) (a : Atom) → atom_alone t items ≡ Some a → settled t (source items) ≡ Ok (Settled.Known (Item.Leaf a ∷ []))
+pub alone_settled : (t : Table) (items : List (Item Operand)) (a : Atom) → atom_alone t items ≡ Some a → settled t (source_tree items) ≡ Ok (Settled.Known (Item.Leaf a ∷ []))
 alone_settled t [] a e = absurd cc
 alone_settled t (Item.Leaf o ∷ []) a e = by_operand t o a e
 alone_settled t (Item.Leaf o ∷ x ∷ xs) a e = absurd cc
@@ -43,5 +43,5 @@ number_is (Some (Atom.Ref r)) n e = absurd cc
 number_is None n e = absurd cc
 
 pub number_settled : (t : Table) (items : List (Item Operand)) (n : ℕ) → atom_number (atom_alone t items) ≡ Some n
-    → settled t (source items) ≡ Ok (Settled.Known (Item.Leaf (Atom.Number n) ∷ []))
+    → settled t (source_tree items) ≡ Ok (Settled.Known (Item.Leaf (Atom.Number n) ∷ []))
 number_settled t items n e = alone_settled t items (Atom.Number n) (number_is (atom_alone t items) n e)

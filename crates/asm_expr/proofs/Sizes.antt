@@ -4,7 +4,7 @@ use Rattle.std.proofs.lemmas.List.Sums.{sum_by-append}
 use Rattle.asm_expr.specs.Types.{Item}
 use Rattle.asm_parse.specs.Expression.{Expression, Leaf, Prefix, Infix, postfix}
 use Rattle.asm_parse.specs.Source.{Operand, AreExpressionItems, source_item}
-use Rattle.asm_parse.specs.Values.Postfix.{source}
+use Rattle.asm_parse.specs.Values.Postfix.{source_tree}
 use Rattle.asm_parse.specs.declared.item.Term.{Term}
 use Rattle.asm_expr.proofs.Steps.{source_whole}
 use Rattle.asm_expr.specs.Names.{Table}
@@ -26,5 +26,5 @@ sum_by-map t [] = refl
 sum_by-map t (x ∷ xs) =
     sum_by-cons (λ i. item_size t (source_item i)) x xs ∙ ap (λ n. item_size t (source_item x) + n) (sum_by-map t xs) ∙ sym (sum_by-cons (item_size t) (source_item x) (map source_item xs))
 
-pub size_items : (t : Table) (xs : List (Item Term)) (items : List (Item Operand)) → map source_item xs ≡ items → AreExpressionItems items → sum_by (λ i. item_size t (source_item i)) xs ≡ expression_size t (source items)
-size_items t xs items is s = sum_by-map t xs ∙ ap (sum_by (item_size t)) (is ∙ sym (source_whole items s)) ∙ sizes t (source items)
+pub size_items : (t : Table) (xs : List (Item Term)) (items : List (Item Operand)) → map source_item xs ≡ items → AreExpressionItems items → sum_by (λ i. item_size t (source_item i)) xs ≡ expression_size t (source_tree items)
+size_items t xs items is s = sum_by-map t xs ∙ ap (sum_by (item_size t)) (is ∙ sym (source_whole items s)) ∙ sizes t (source_tree items)

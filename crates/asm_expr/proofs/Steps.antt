@@ -5,7 +5,7 @@ use Rattle.std.proofs.lemmas.Bool.{lt-ltb, le-ltb}
 use Rattle.asm_expr.specs.Types.{Item, Atom, ExprFault, Settled, Worth}
 use Rattle.asm_expr.specs.declared.part.Part.{Part}
 use Rattle.asm_parse.specs.Expression.{Expression, Leaf, Prefix, Infix, postfix}
-use Rattle.asm_parse.specs.Values.Postfix.{spread, put, run, only, tree, source}
+use Rattle.asm_parse.specs.Values.Postfix.{spread, put, run, only, tree, source_tree}
 use Rattle.asm_expr.specs.Names.{AreCounted, IsCounted, Table, found, item_count}
 use Rattle.common.specs.Results.{◌>>=◌}
 use Rattle.asm_expr.specs.declared.meaning.Meaning.{Meaning}
@@ -285,7 +285,7 @@ settled_worth t counted e out none is =
       );
     }
 
-pub source_whole : (items : List (Item Operand)) → AreExpressionItems items → postfix (source items) ≡ items
+pub source_whole : (items : List (Item Operand)) → AreExpressionItems items → postfix (source_tree items) ≡ items
 source_whole items s = ap (λ r. postfix (only Here r)) (run-whole items s.expression s.spelled) ∙ s.spelled
 
 pub run_source : (items read : List (Item Operand)) → AreExpressionItems items → read ≡ items → (e : Expression Operand) × (run read [] ≡ Some (e ∷ []))

@@ -7,7 +7,7 @@ ghost use Rattle.asm_parse.specs.Source.{operand};
 ghost use Rattle.asm_parse.specs.declared.values.atom.Atom.{Atom};
 ghost use Rattle.asm_expr.specs.declared.answer.Settled.{Settled};
 ghost use Rattle.asm_expr.specs.Alone.{atom_alone, atom_of, number_alone};
-ghost use Rattle.asm_parse.specs.Values.Postfix.{source};
+ghost use Rattle.asm_parse.specs.Values.Postfix.{source_tree};
 ghost use Rattle.asm_expr.specs.Settling.{settled};
 ghost use Rattle.asm_expr.specs.Private.Left.{IsLeftOperand, operand_alone};
 
@@ -63,7 +63,7 @@ fn term_alone(parsed: &Tree) -> Option<&Term>
 
 /// The expression that the only term of an expression stands for, if settling leaves it as it is. None for any other expression.
 pub(crate) fn left_alone<'a>(parsed: &Tree, names: &'a Names) -> Option<&'a Expr>
-    ensures settled { IfSome result (λ expr. settled names.now (source parsed.now) ≡ Ok (Settled.Known expr.now)) }
+    ensures settled { IfSome result (λ expr. settled names.now (source_tree parsed.now) ≡ Ok (Settled.Known expr.now)) }
 {
     match term_alone(parsed) {
         Some(term) => left_of(term, names),
@@ -75,7 +75,7 @@ pub(crate) fn left_alone<'a>(parsed: &Tree, names: &'a Names) -> Option<&'a Expr
 /// expression.
 pub fn number_alone(parsed: &Tree, names: &Names) -> Option<u16>
     ensures alone { result ≡ number_alone names.now parsed.now }
-    ensures settled { (n : ℕ) → result ≡ Some n → settled names.now (source parsed.now) ≡ Ok (Settled.Known (Item.Leaf (Atom.Number n) ∷ [])) }
+    ensures settled { (n : ℕ) → result ≡ Some n → settled names.now (source_tree parsed.now) ≡ Ok (Settled.Known (Item.Leaf (Atom.Number n) ∷ [])) }
 {
     match atom_alone(parsed, names) {
         Some(Atom::Number(n)) => Some(n),

@@ -4,7 +4,7 @@ ghost use Rattle.std.specs.Prelude.{◌≡◌, ◌⊎◌, ◌≤◌, length, Som
 ghost use Rattle.std.specs.List.{AllPass};
 ghost use Rattle.asm_parse.specs.declared.fault.ExprFault.{ExprFault};
 ghost use Rattle.asm_expr.specs.declared.answer.Settled.{Settled};
-ghost use Rattle.asm_parse.specs.Values.Postfix.{source};
+ghost use Rattle.asm_parse.specs.Values.Postfix.{source_tree};
 ghost use Rattle.asm_expr.specs.Settling.{IsWorthOf, is_known, settled};
 ghost use Rattle.asm_expr.specs.Private.Folding.{unknown_at_end, unknown_by};
 
@@ -61,7 +61,7 @@ fn unknown_of(reduced: &Parts<'_>) -> Unknown
 /// The settled expression, if the expression is one term that settling leaves as it is and whose items can be shared; None
 /// otherwise.
 fn settle_again(parsed: &Tree, names: &Names) -> Result<Option<Expr>, AllocError>
-    ensures { IfOk result (λ answer. IfSome answer (λ expr. settled names.now (source parsed.now) ≡ Ok (Settled.Known expr))) }
+    ensures { IfOk result (λ answer. IfSome answer (λ expr. settled names.now (source_tree parsed.now) ≡ Ok (Settled.Known expr))) }
 {
     match left_alone(parsed, names) {
         Some(expr) => expr.again(),
@@ -72,8 +72,8 @@ fn settle_again(parsed: &Tree, names: &Names) -> Result<Option<Expr>, AllocError
 /// Settles an expression of any number of terms.
 fn settle_items(alloc: Global, parsed: &Tree, names: &Names) -> Result<Settled, ExprFault>
     requires { AllPass (is_known names.now) parsed.now }
-    ensures settled { (result ≡ settled names.now (source parsed.now)) ⊎ (result ≡ Err ExprFault.NoMemory) }
-    ensures worth { IfOk result (λ answer. IsWorthOf names.now (source parsed.now) answer) }
+    ensures settled { (result ≡ settled names.now (source_tree parsed.now)) ⊎ (result ≡ Err ExprFault.NoMemory) }
+    ensures worth { IfOk result (λ answer. IsWorthOf names.now (source_tree parsed.now) answer) }
 {
     // Called for its clause, from which follows that there are never more than `MOST_ITEMS` settled items.
     names.counted();
@@ -95,8 +95,8 @@ fn settle_items(alloc: Global, parsed: &Tree, names: &Names) -> Result<Settled, 
 /// are replaced. [`ExprFault::NoMemory`] if memory runs out.
 pub fn settle(alloc: Global, parsed: &Tree, names: &Names) -> Result<Settled, ExprFault>
     requires { AllPass (is_known names.now) parsed.now }
-    ensures settled { (result ≡ settled names.now (source parsed.now)) ⊎ (result ≡ Err ExprFault.NoMemory) }
-    ensures worth { IfOk result (λ answer. IsWorthOf names.now (source parsed.now) answer) }
+    ensures settled { (result ≡ settled names.now (source_tree parsed.now)) ⊎ (result ≡ Err ExprFault.NoMemory) }
+    ensures worth { IfOk result (λ answer. IsWorthOf names.now (source_tree parsed.now) answer) }
 {
     // Called for its clause about the table.
     names.counted();

@@ -3,7 +3,7 @@
 ghost use Rattle.std.specs.Prelude.{◌≡◌, ◌⊎◌, Err, IfOk};
 ghost use Rattle.std.specs.List.{AllPass};
 ghost use Rattle.asm_expr.specs.Types.{ExprFault};
-ghost use Rattle.asm_parse.specs.Values.Postfix.{source};
+ghost use Rattle.asm_parse.specs.Values.Postfix.{source_tree};
 ghost use Rattle.asm_expr.specs.Names.{IsCounted};
 ghost use Rattle.asm_expr.specs.Settling.{is_known};
 ghost use Rattle.asm_expr.specs.Equating.{equated};
@@ -23,7 +23,7 @@ use std::alloc::Global;
 /// The first error of the expression, as [`settle`](crate::settle) reports it.
 pub fn equate(alloc: Global, parsed: &Tree, names: &Names) -> Result<Meaning, ExprFault>
     requires { AllPass (is_known names.now) parsed.now }
-    ensures equated { (result ≡ equated names.now (source parsed.now)) ⊎ (result ≡ Err ExprFault.NoMemory) }
+    ensures equated { (result ≡ equated names.now (source_tree parsed.now)) ⊎ (result ≡ Err ExprFault.NoMemory) }
     ensures counted { IfOk result IsCounted }
 {
     // Called for its clause, from which follows that an expression stands for at least one term or operator.

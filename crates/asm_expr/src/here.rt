@@ -5,7 +5,7 @@ ghost use Rattle.std.specs.List.{AllPass};
 ghost use Rattle.std.specs.Option.{option_eq, option_map};
 ghost use Rattle.asm_parse.specs.declared.item.Item.{Item};
 ghost use Rattle.asm_parse.specs.Source.{Here, source_item};
-ghost use Rattle.asm_parse.specs.Values.Postfix.{run, source};
+ghost use Rattle.asm_parse.specs.Values.Postfix.{run, source_tree};
 ghost use Rattle.asm_expr.specs.Settling.{is_known};
 ghost use Rattle.asm_expr.specs.Offsets.{IsOffset};
 ghost use Rattle.asm_expr.specs.Private.Heads.{IsFromHere, IsNotFromHere, numbered, sign_of};
@@ -84,7 +84,7 @@ fn is_here(items: &[Item<Term>]) -> bool
 /// The first error of `$+n` or `$-n`, as [`settle`](crate::settle) reports it. An operand of another form is not checked.
 pub fn offset_from_here(alloc: Global, parsed: &Tree, names: &Names) -> Result<Offset, ExprFault>
     requires { AllPass (is_known names.now) parsed.now }
-    ensures { IsOffset names.now (source parsed.now) result }
+    ensures { IsOffset names.now (source_tree parsed.now) result }
 {
     let operand = parsed.items();
     if is_here(operand) {

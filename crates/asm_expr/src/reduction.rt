@@ -5,7 +5,7 @@ ghost use Rattle.std.specs.List.{AllPass};
 ghost use Rattle.asm_expr.specs.declared.part.Part.{Part};
 ghost use Rattle.asm_parse.specs.declared.item.Item.{Item};
 ghost use Rattle.asm_parse.specs.Expression.{Expression, Leaf, postfix};
-ghost use Rattle.asm_parse.specs.Values.Postfix.{source, spread, tree};
+ghost use Rattle.asm_parse.specs.Values.Postfix.{source_tree, spread, tree};
 ghost use Rattle.asm_parse.specs.Source.{operand, source_item};
 ghost use Rattle.asm_expr.specs.Names.{AreCounted, found, item_count};
 ghost use Rattle.asm_parse.specs.Values.Arithmetic.{binary};
@@ -333,7 +333,7 @@ fn take_item<'a>(out: &mut Parts<'a>, item: &Item<Term>, names: &'a Names) -> Re
 /// known.
 pub(crate) fn reduce<'a>(parsed: &Tree, names: &'a Names) -> Result<Parts<'a>, ExprFault>
     requires { AllPass (is_known names.now) parsed.now }
-    ensures { IsReduced names.now (source parsed.now) result }
+    ensures { IsReduced names.now (source_tree parsed.now) result }
 {
     // Called for its clause: what a name stands for has no more items than terms and operators.
     names.counted();

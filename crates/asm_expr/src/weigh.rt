@@ -5,7 +5,7 @@ ghost use Rattle.std.specs.List.{AllPass, list_all};
 ghost use Rattle.asm_parse.specs.Source.{source_item};
 ghost use Rattle.asm_parse.specs.Expression.{postfix};
 ghost use Rattle.asm_parse.specs.declared.values.expr.TheConstants.{MOST_ITEMS};
-ghost use Rattle.asm_parse.specs.Values.Postfix.{source};
+ghost use Rattle.asm_parse.specs.Values.Postfix.{source_tree};
 ghost use Rattle.asm_expr.specs.Settling.{is_constant_item, is_known, expression_size};
 ghost use Rattle.asm_expr.specs.Private.Folding.{item_size};
 
@@ -51,7 +51,7 @@ pub(crate) fn all_constant(items: &[Item<Term>], names: &Names) -> bool
 /// Whether an expression is constant: it contains no address and no external after EQU names are replaced. A name whose own line
 /// has an error counts as constant, and so does one that stands for nothing.
 pub fn is_constant(parsed: &Tree, names: &Names) -> bool
-    ensures { result ≡ list_all (is_constant_item names.now) (postfix (source parsed.now)) }
+    ensures { result ≡ list_all (is_constant_item names.now) (postfix (source_tree parsed.now)) }
 {
     all_constant(parsed.items(), names)
 }
@@ -59,8 +59,8 @@ pub fn is_constant(parsed: &Tree, names: &Names) -> bool
 /// How many terms and operators an expression stands for, after EQU names are replaced, a constant one by its number. They are 64
 /// at most if [`settle`](crate::settle) accepts the expression.
 pub fn size(parsed: &Tree, names: &Names) -> u16
-    requires { expression_size names.now (source parsed.now) ≤ MOST_ITEMS }
-    ensures { result ≡ expression_size names.now (source parsed.now) }
+    requires { expression_size names.now (source_tree parsed.now) ≤ MOST_ITEMS }
+    ensures { result ≡ expression_size names.now (source_tree parsed.now) }
 {
     let mut total = 0;
     for item in parsed.items() {

@@ -12,14 +12,14 @@ use Rattle.asm_line.specs.declared.forms.BlockWord.{BlockWord}
 use Rattle.asm_line.specs.Forms.{Form, Head}
 use Rattle.asm_line.specs.Forms as line
 use Rattle.asm_text.specs.Lines.{Numbered, form_of}
-use Rattle.asm_text.specs.Sections.Blocks.{BlockBody, Branches, Section, block_body, branches_of}
+use Rattle.asm_text.specs.Sections.Blocks.{BlockBody, Branches, block_body, branches_of}
 use Rattle.asm_text.specs.Roles.{is_alone}
 use Rattle.asm_text.specs.Calls.{Macro, Opened, label_lines, opened}
-use Rattle.asm_text.specs.Sections.Onward.{Next, Rest, BehindFirst, BehindSecond, Turns, renumbered}
+use Rattle.asm_text.specs.Sections.Onward.{Next, Rest, BehindFirst, BehindSecond, Turns, Onward, Stray, On, Into, behind, branch, turns}
 use Rattle.asm_macro.specs.declared.fault.MacroFault.{MacroFault}
 use Rattle.asm_macro.specs.State.{State, with_line_counted, is_constant, macro_called, constant_table, room}
 use Rattle.asm_macro.specs.Judged.{first_macro_fault, is_counted, line_fault, parameters, redefined, stray_fault, unclosed, unscanned}
-use Rattle.asm_macro.specs.Parts.{ExpansionPart, Stop, Last, Go, Within, call_part, closing, conditional, definition, fails, head_part, judged_part, learned, line_part, passed, read_part, repeated, resumed, else_part, repetition_part, unless_deep, word_part}
+use Rattle.asm_macro.specs.Parts.{ExpansionPart, Stop, Last, Go, Within, call_part, closing, conditional, definition, fails, head_part, into, judged_part, learned, line_part, onward_part, read_part, repeated, resumed, unless_deep, word_part}
 use Rattle.asm_macro.specs.Values.{value_of_tokens}
 use Rattle.asm_macro.specs.Leads.{IsOfBlocks, IsOfLine, Leads}
 use Rattle.asm_macro.specs.Leads as leads
@@ -56,39 +56,30 @@ module _ (Why : MacroFault → Type 0) (of_blocks : (why : MacroFault) → IsOfB
     | false ↦ h
   ]
 
-  behind_passed : (k n : ℕ) (others : List Section) (p : ExpansionPart) → Leads Why k n p → Leads Why k n (passed others p)
-  behind_passed k n [] p h = h
-  behind_passed k n (t ∷ []) p h = at_closing k n t.end p h
-  behind_passed k n (t ∷ u ∷ more) p h = stops_stray k n t.end.number
-
-  turns_lead : (k depth some number : ℕ) (body : BlockBody) (e : State) → Leads Why k (suc (room e)) (repetition_part depth some number body e)
-  turns_lead k depth zero number body e = at_closing k (suc (room e)) body.section.end (Go [] e body.after) (goes k e body.after)
-  turns_lead k depth (suc n) number body e =
-      elim (nat_le MOST_LINES e.count) as (λ b. Leads Why k (suc (room e)) (if b then Stop [] number MacroFault.TooManyLines else Within [] (with_line_counted e) (depth + 1) (renumbered number body.section.lines) (Turns n number body))) [
+  into_leads : (k depth : ℕ) (e : State) (text : List Numbered) (next : Next) → Leads Why k (suc (room e)) (into depth e text next)
+  into_leads k depth e text (Turns n number body) =
+      elim (nat_le MOST_LINES e.count) as (λ b. Leads Why k (suc (room e)) (if b then Stop [] number MacroFault.TooManyLines else Within [] (with_line_counted e) (depth + 1) text (Turns n number body))) [
         | true ↦ stops k (suc (room e)) number MacroFault.TooManyLines (of_blocks MacroFault.TooManyLines leads.many)
         | false ↦ (omega arith, omega arith, tt)
       ]
+  into_leads k depth e text (Rest more) = (omega arith, omega arith, tt)
+  into_leads k depth e text (BehindFirst b) = (omega arith, omega arith, tt)
+  into_leads k depth e text (BehindSecond t more after) = (omega arith, omega arith, tt)
 
-  resumed_lead : (k depth : ℕ) (next : Next) (e : State) → Leads Why k (suc (room e)) (resumed depth next e)
-  resumed_lead k depth (Rest text) e = goes k e text
-  resumed_lead k depth (BehindFirst b) e = at_closing k (suc (room e)) b.first.end (passed b.others (Go [] e b.after)) (behind_passed k (suc (room e)) b.others (Go [] e b.after) (goes k e b.after))
-  resumed_lead k depth (BehindSecond t [] after) e = at_closing k (suc (room e)) t.end (Go [] e after) (goes k e after)
-  resumed_lead k depth (BehindSecond t (u ∷ more) after) e = stops_stray k (suc (room e)) t.end.number
-  resumed_lead k depth (Turns n number body) e = turns_lead k depth n number body e
+  -- wherever expansion continues
+  onward_lead : (k depth : ℕ) (e : State) (o : Onward) → Leads Why k (suc (room e)) (onward_part depth e o)
+  onward_lead k depth e (Stray number) = stops_stray k (suc (room e)) number
+  onward_lead k depth e (On text) = goes k e text
+  onward_lead k depth e (Into text next) = into_leads k depth e text next
 
   -- a REPT or an IF, given the value of its expression
   repeated_leads : (k depth : ℕ) (e : State) (l : Numbered) (body : Option BlockBody) (value : Result ℕ MacroFault) → ((why : MacroFault) → value ≡ Err why → Why why) → Leads Why k (suc (room e)) (repeated depth e l body value)
-  repeated_leads k depth e l (Some body) (Ok n) valued = not_deep k (suc (room e)) depth l (repetition_part depth n l.number body e) (turns_lead k depth n l.number body e)
+  repeated_leads k depth e l (Some body) (Ok n) valued = not_deep k (suc (room e)) depth l (onward_part depth e (turns n l.number body)) (onward_lead k depth e (turns n l.number body))
   repeated_leads k depth e l (Some body) (Err fault) valued = stops k (suc (room e)) l.number fault (valued fault refl)
   repeated_leads k depth e l None value valued = stops k (suc (room e)) l.number MacroFault.Unclosed (of_blocks MacroFault.Unclosed leads.unclosed)
 
-  second_leads : (k depth : ℕ) (e : State) (others : List Section) (after : List Numbered) → Leads Why k (suc (room e)) (else_part depth e others after)
-  second_leads k depth e [] after = goes k e after
-  second_leads k depth e (t ∷ more) after = (omega arith, omega arith, tt)
-
   conditional_leads : (k depth : ℕ) (e : State) (l : Numbered) (branches : Option Branches) (value : Result ℕ MacroFault) → ((why : MacroFault) → value ≡ Err why → Why why) → Leads Why k (suc (room e)) (conditional depth e l branches value)
-  conditional_leads k depth e l (Some b) (Ok zero) valued = at_closing k (suc (room e)) b.first.end (else_part depth e b.others b.after) (second_leads k depth e b.others b.after)
-  conditional_leads k depth e l (Some b) (Ok (suc n)) valued = (omega arith, omega arith, tt)
+  conditional_leads k depth e l (Some b) (Ok n) valued = onward_lead k depth e (branch n b)
   conditional_leads k depth e l (Some b) (Err fault) valued = stops k (suc (room e)) l.number fault (valued fault refl)
   conditional_leads k depth e l None value valued = stops k (suc (room e)) l.number MacroFault.Unclosed (of_blocks MacroFault.Unclosed leads.unclosed)
 
@@ -177,4 +168,4 @@ part_leads depth e l rest =
 
 -- where expansion continues after some lines
 pub onward_leads : (depth : ℕ) (next : Next) (e : State) → Leads IsOfBlocks 0 (suc (room e)) (resumed depth next e)
-onward_leads depth next e = resumed_lead IsOfBlocks (λ why h. h) 0 depth next e
+onward_leads depth next e = onward_lead IsOfBlocks (λ why h. h) 0 depth e (behind next)

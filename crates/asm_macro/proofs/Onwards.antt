@@ -1,4 +1,4 @@
--- Where expansion continues at a block: the code's answer is the part that the definitions give.
+-- Where expansion continues at a block: what a line that closes a body does, how deep blocks nest, and how much they open.
 use Rattle.std.proofs.Common.{◌≡◌, ◌<◌, ◌≤◌, ◌+◌, ◌∙◌, sym, ap, refl, ℕ, zero, suc, Bool, true, false, if◌then◌else◌, List, [], ◌∷◌, Option, Some, None, arith}
 use Rattle.asm_macro.specs.declared.take.TheConstants.{MOST_NESTED}
 use Rattle.asm_line.specs.Replacing.Replaced.{ReplacementTable}
@@ -13,8 +13,8 @@ use Rattle.asm_text.specs.Sections.Sections.{branches_seen, section_of}
 use Rattle.asm_text.specs.Sections.Views.{behind_other, next_of}
 use Rattle.asm_macro.specs.declared.fault.MacroFault.{MacroFault}
 use Rattle.asm_macro.specs.State.{State}
-use Rattle.asm_macro.specs.Parts.{ExpansionPart, Stop, Go, branch_part, closing, fails, passed, resumed, else_part}
-use Rattle.asm_macro.specs.Private.Going.{Fits, part_of, texts_opened, turn_in, turns_opened}
+use Rattle.asm_macro.specs.Parts.{ExpansionPart, Stop, closing, fails}
+use Rattle.asm_macro.specs.Private.Going.{Fits, texts_opened, turn_in, turns_opened}
 
 -- a part, unless the line with this number is misplaced
 abbrev barred : Option ℕ → ExpansionPart → ExpansionPart
@@ -33,37 +33,6 @@ closing_none l s is none p = closing_is l p ∙ ap (λ o. barred o p) (sym is �
 
 pub closing_some : (l : Numbered) (s : Option ℕ) (number : ℕ) → s ≡ stray l → s ≡ Some number → (p : ExpansionPart) → closing l p ≡ Stop [] number MacroFault.Stray
 closing_some l s number is some p = closing_is l p ∙ ap (λ o. barred o p) (sym is ∙ some)
-
-passed_is : (others : List Section) (p : ExpansionPart) → passed others p ≡ barred (stray_in others) p
-passed_is [] p = refl
-passed_is (t ∷ []) p = closing_is t.end p
-passed_is (t ∷ u ∷ more) p = refl
-
-part_unless : (depth : ℕ) (e : State) (s : Option ℕ) (o : Onward) → part_of depth e (stray_or s o) ≡ barred s (part_of depth e o)
-part_unless depth e None o = refl
-part_unless depth e (Some number) o = refl
-
-closed : (depth : ℕ) (e : State) (l : Numbered) (o : Onward) (p : ExpansionPart) → p ≡ part_of depth e o → closing l p ≡ part_of depth e (stray_or (stray l) o)
-closed depth e l o p is = closing_is l p ∙ ap (barred (stray l)) is ∙ sym (part_unless depth e (stray l) o)
-
--- where expansion continues after some lines
-pub resumed_is : (depth : ℕ) (next : Next) (e : State) → resumed depth next e ≡ part_of depth e (behind next)
-resumed_is depth (Rest text) e = refl
-resumed_is depth (BehindFirst b) e =
-    closed depth e b.first.end (stray_or (stray_in b.others) (On b.after)) (passed b.others (Go [] e b.after)) (passed_is b.others (Go [] e b.after) ∙ sym (part_unless depth e (stray_in b.others) (On b.after)))
-resumed_is depth (BehindSecond t [] after) e = closed depth e t.end (On after) (Go [] e after) refl
-resumed_is depth (BehindSecond t (u ∷ more) after) e = refl
-resumed_is depth (Turns zero number body) e = closed depth e body.section.end (On body.after) (Go [] e body.after) refl
-resumed_is depth (Turns (suc n) number body) e = refl
-
-second_is : (depth : ℕ) (e : State) (others : List Section) (after : List Numbered) → else_part depth e others after ≡ part_of depth e (onward.second_of others after)
-second_is depth e [] after = refl
-second_is depth e (t ∷ more) after = refl
-
--- a branch of an IF
-pub chosen_is : (n depth : ℕ) (e : State) (b : Branches) → branch_part n depth e b ≡ part_of depth e (branch n b)
-chosen_is zero depth e b = closed depth e b.first.end (onward.second_of b.others b.after) (else_part depth e b.others b.after) (second_is depth e b.others b.after)
-chosen_is (suc n) depth e b = refl
 
 -- Where expansion continues at a block, nesting stays within the limit.
 

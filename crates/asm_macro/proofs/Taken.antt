@@ -6,7 +6,8 @@ use Rattle.asm_macro.specs.declared.fault.MacroFault.{MacroFault}
 use Rattle.asm_text.specs.Lines.{Numbered}
 use Rattle.asm_macro.specs.State.{State}
 use Rattle.asm_text.specs.Sections.Blocks.{BlockBody, Branches}
-use Rattle.asm_macro.specs.Parts.{branch_part, conditional, repeated, repetition_part}
+use Rattle.asm_text.specs.Sections.Onward.{branch, turns}
+use Rattle.asm_macro.specs.Parts.{conditional, onward_part, repeated}
 use Rattle.asm_macro.specs.Ahead.{Around, Rest}
 use Rattle.asm_macro.specs.Private.Stopped.{stopped}
 use Rattle.asm_macro.specs.Private.Moves.{Fails, Moved, Resumes, moved}
@@ -34,7 +35,7 @@ pub value_fails : (w : Result ℕ MacroFault) (n : ℕ) (why : MacroFault) (new 
 value_fails w n why new move (inl e) f = subst (Resumes (Err (stopped n why)) new) (sym (f (sym e))) (stopped_fails n why new)
 value_fails w n why new move (inr e) f = let none : why ≡ MacroFault.NoMemory = cc in rw none tt
 
-pub conditional_ok : (depth : ℕ) (e : State) (l : Numbered) (found : Option Branches) (w : Result ℕ MacroFault) (b : Branches) (n : ℕ) → found ≡ Some b → w ≡ Ok n → conditional depth e l found w ≡ branch_part n depth e b
+pub conditional_ok : (depth : ℕ) (e : State) (l : Numbered) (found : Option Branches) (w : Result ℕ MacroFault) (b : Branches) (n : ℕ) → found ≡ Some b → w ≡ Ok n → conditional depth e l found w ≡ onward_part depth e (branch n b)
 conditional_ok depth e l found w b n f v = rw (f, v) refl
 
 pub conditional_err : (depth : ℕ) (around : List Around) (e : State) (l : Numbered) (found : Option Branches) (w : Result ℕ MacroFault) (b : Branches) (why : MacroFault) → found ≡ Some b → w ≡ Err why
@@ -44,7 +45,7 @@ conditional_err depth around e l found w b why f v = rw (f, v) refl
 not_deep : (n : ℕ) → n < MOST_NESTED → nat_le MOST_NESTED n ≡ false
 not_deep n h = lt-leb MOST_NESTED n h
 
-pub repeated_ok : (depth : ℕ) (e : State) (l : Numbered) (found : Option BlockBody) (w : Result ℕ MacroFault) (b : BlockBody) (n : ℕ) → found ≡ Some b → w ≡ Ok n → depth < MOST_NESTED → repeated depth e l found w ≡ repetition_part depth n l.number b e
+pub repeated_ok : (depth : ℕ) (e : State) (l : Numbered) (found : Option BlockBody) (w : Result ℕ MacroFault) (b : BlockBody) (n : ℕ) → found ≡ Some b → w ≡ Ok n → depth < MOST_NESTED → repeated depth e l found w ≡ onward_part depth e (turns n l.number b)
 repeated_ok depth e l found w b n f v h = rw (f, v, not_deep depth h) refl
 
 pub repeated_err : (depth : ℕ) (around : List Around) (e : State) (l : Numbered) (found : Option BlockBody) (w : Result ℕ MacroFault) (b : BlockBody) (why : MacroFault) → found ≡ Some b → w ≡ Err why

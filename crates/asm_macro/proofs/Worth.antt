@@ -13,7 +13,7 @@ use Rattle.asm_parse.specs.Parsed.{parsed}
 use Rattle.asm_parse.specs.Expression.{postfix}
 use Rattle.asm_parse.specs.declared.fault.ExprFault.{ExprFault}
 use Rattle.asm_parse.specs.declared.item.Item.{Item}
-use Rattle.asm_expr.specs.Below.{Atom, source}
+use Rattle.asm_expr.specs.Below.{Atom, source_tree}
 use Rattle.asm_expr.specs.declared.answer.Settled.{Settled}
 use Rattle.asm_expr.specs.declared.meaning.Meaning.{Meaning}
 use Rattle.asm_expr.specs.Names.{Table, found}
@@ -93,23 +93,23 @@ pub no_number : (cs : List (List ℕ × ℕ)) (tokens : List Lexeme) (items : Li
 no_number cs tokens items p e = let n : list_all (is_number_item (table_of cs)) items ≡ false = sym (same_items cs items) ∙ e in ap (worth_of_items (table_of cs)) p ∙ rw n refl
 
 pub numbers : (cs : List (List ℕ × ℕ)) (tokens : List Lexeme) (items : List (Item Operand)) → parsed tokens ≡ Ok items → list_all (is_plain_item (table_of cs)) items ≡ true
-    → value_of_tokens (table_of cs) tokens ≡ settled_number (settled (table_of cs) (source items))
+    → value_of_tokens (table_of cs) tokens ≡ settled_number (settled (table_of cs) (source_tree items))
 numbers cs tokens items p e = let n : list_all (is_number_item (table_of cs)) items ≡ true = sym (same_items cs items) ∙ e in ap (worth_of_items (table_of cs)) p ∙ rw n refl
 
 -- an error of the value
 pub settled_err : (cs : List (List ℕ × ℕ)) (tokens : List Lexeme) (items : List (Item Operand)) (why : ExprFault) → parsed tokens ≡ Ok items → list_all (is_plain_item (table_of cs)) items ≡ true
-    → (◌≡◌ {A = Result Settled ExprFault} (Err why) (settled (table_of cs) (source items))) ⊎ (◌≡◌ {A = Result Settled ExprFault} (Err why) (Err ExprFault.NoMemory))
+    → (◌≡◌ {A = Result Settled ExprFault} (Err why) (settled (table_of cs) (source_tree items))) ⊎ (◌≡◌ {A = Result Settled ExprFault} (Err why) (Err ExprFault.NoMemory))
     → (◌≡◌ {A = Result ℕ MacroFault} (Err (fault_of_expr why)) (value_of_tokens (table_of cs) tokens)) ⊎ (◌≡◌ {A = Result ℕ MacroFault} (Err (fault_of_expr why)) (Err MacroFault.NoMemory))
 settled_err cs tokens items why p e (inl s) = inl (ap settled_number s ∙ sym (numbers cs tokens items p e))
 settled_err cs tokens items why p e (inr s) = let none : why ≡ ExprFault.NoMemory = cc in inr (rw none refl)
 
 -- the number that is the value
-pub settled_ok : (cs : List (List ℕ × ℕ)) (tokens : List Lexeme) (items : List (Item Operand)) (s : Settled) (r : Result ℕ MacroFault) → parsed tokens ≡ Ok items → list_all (is_plain_item (table_of cs)) items ≡ true → postfix (source items) ≡ items
-    → (◌≡◌ {A = Result Settled ExprFault} (Ok s) (settled (table_of cs) (source items))) ⊎ (◌≡◌ {A = Result Settled ExprFault} (Ok s) (Err ExprFault.NoMemory))
+pub settled_ok : (cs : List (List ℕ × ℕ)) (tokens : List Lexeme) (items : List (Item Operand)) (s : Settled) (r : Result ℕ MacroFault) → parsed tokens ≡ Ok items → list_all (is_plain_item (table_of cs)) items ≡ true → postfix (source_tree items) ≡ items
+    → (◌≡◌ {A = Result Settled ExprFault} (Ok s) (settled (table_of cs) (source_tree items))) ⊎ (◌≡◌ {A = Result Settled ExprFault} (Ok s) (Err ExprFault.NoMemory))
     → ((n : ℕ) → s ≡ Settled.Known (Item.Leaf (Atom.Number n) ∷ []) → r ≡ Ok n) → r ≡ value_of_tokens (table_of cs) tokens
 settled_ok cs tokens items s r p e same (inl is) f =
     let all = ap (list_all (is_number_item (table_of cs))) same ∙ sym (same_items cs items) ∙ e in
-    let number = number_settled (table_of cs) (source items) all s (sym is) in
+    let number = number_settled (table_of cs) (source_tree items) all s (sym is) in
     f number.0 number.2 ∙ sym (numbers cs tokens items p e ∙ ap settled_number (sym is ∙ ap Ok number.2))
 settled_ok cs tokens items s r p e same (inr is) f = absurd (cc)
 

@@ -1,6 +1,6 @@
 -- What a line that expansion reaches leads to, given the lines that follow it: `line_part`, at the end of this file.
 -- In words: docs/LANGUAGE.md, section 'Macros'.
-use Rattle.std.specs.Prelude.{ℕ, zero, suc, ◌+◌, List, [], ◌∷◌, Option, Some, None, Result, Ok, Err, if◌then◌else◌, nat_le, length, map, codes}
+use Rattle.std.specs.Prelude.{ℕ, ◌+◌, List, [], ◌∷◌, Option, Some, None, Result, Ok, Err, if◌then◌else◌, nat_le, length, map, codes}
 use Rattle.std.specs.Str.{bytes_eq}
 use Rattle.asm_macro.specs.declared.take.TheConstants.{MOST_NESTED}
 use Rattle.asm_macro.specs.declared.expansion.TheConstants.{MOST_LINES}
@@ -17,8 +17,9 @@ use Rattle.asm_text.specs.Calls.{Macro, Opened, opened, body_lines, arguments_in
 use Rattle.asm_macro.specs.State.{State, macro_called, with_macro, is_constant, with_constant, with_line_counted, constant_table}
 use Rattle.asm_macro.specs.Values.{value_of_tokens}
 use Rattle.asm_text.specs.Roles.{is_alone}
-use Rattle.asm_text.specs.Sections.Blocks.{Section, BlockBody, Branches, block_body, branches_of}
-use Rattle.asm_text.specs.Sections.Onward.{Next, Rest, BehindFirst, BehindSecond, Turns, renumbered}
+use Rattle.asm_text.specs.Sections.Blocks.{BlockBody, Branches, block_body, branches_of}
+use Rattle.asm_text.specs.Sections.Onward.{Next, Rest, BehindFirst, BehindSecond, Turns, Onward, Stray, On, Into, behind, branch, turns}
+use Rattle.asm_macro.specs.Faults.{fault_of_scan}
 use Rattle.asm_macro.specs.Judged.{parameters, line_fault}
 
 pub data ExpansionPart : Type 0 where
@@ -37,56 +38,37 @@ fails l why = Stop [] l.number why
 abbrev pub closing : Numbered → ExpansionPart → ExpansionPart
 closing l part = if is_alone (form_of l.text) then part else fails l MacroFault.Stray
 
--- The branch of an ELSE that is not taken. A second ELSE is an error.
-abbrev pub passed : List Section → ExpansionPart → ExpansionPart
-passed [] part = part
-passed (t ∷ []) part = closing t.end part
-passed (t ∷ _) part = fails t.end MacroFault.Stray
+-- The lines of a body or branch are expanded next, and then what follows them. A repetition of a REPT is one level deeper, and counts as
+-- a line that is read.
+abbrev pub into : ℕ → State → List Numbered → Next → ExpansionPart
+into depth e text (Turns left number body) =
+    if nat_le MOST_LINES e.count then Stop [] number MacroFault.TooManyLines else Within [] (with_line_counted e) (depth + 1) text (Turns left number body)
+into depth e text (Rest more) = Within [] e depth text (Rest more)
+into depth e text (BehindFirst b) = Within [] e depth text (BehindFirst b)
+into depth e text (BehindSecond t more after) = Within [] e depth text (BehindSecond t more after)
 
--- after the first branch of an IF: an ELSE and its branch are skipped, and a second ELSE is an error
-abbrev pub behind_first : Branches → State → ExpansionPart
-behind_first b e = closing b.first.end (passed b.others (Go [] e b.after))
-
--- after the branch of an ELSE: a second ELSE is an error
-abbrev pub behind_second : Section → List Section → State → List Numbered → ExpansionPart
-behind_second t [] e after = closing t.end (Go [] e after)
-behind_second t (_ ∷ _) e after = fails t.end MacroFault.Stray
-
-abbrev pub else_part : ℕ → State → List Section → List Numbered → ExpansionPart
-else_part depth e [] after = Go [] e after
-else_part depth e (t ∷ more) after = Within [] e depth t.lines (BehindSecond t more after)
-
--- an IF: its first branch if its value is not 0, otherwise the branch of its ELSE if there is one
-abbrev pub branch_part : ℕ → ℕ → State → Branches → ExpansionPart
-branch_part (suc n) depth e b = Within [] e depth b.first.lines (BehindFirst b)
-branch_part zero depth e b = closing b.first.end (else_part depth e b.others b.after)
+-- where expansion continues, as a part: at this depth, with this state
+abbrev pub onward_part : ℕ → State → Onward → ExpansionPart
+onward_part depth e (Stray number) = Stop [] number MacroFault.Stray
+onward_part depth e (On text) = Go [] e text
+onward_part depth e (Into text next) = into depth e text next
 
 -- an error if as many calls and repetitions as allowed are open
 abbrev pub unless_deep : ℕ → Numbered → ExpansionPart → ExpansionPart
 unless_deep depth l part = if nat_le MOST_NESTED depth then fails l MacroFault.TooDeep else part
 
--- the repetitions of a REPT, which count as lines that are read
-abbrev pub repetition_part : ℕ → ℕ → ℕ → BlockBody → State → ExpansionPart
-repetition_part depth zero number body e = closing body.section.end (Go [] e body.after)
-repetition_part depth (suc n) number body e =
-    if nat_le MOST_LINES e.count then Stop [] number MacroFault.TooManyLines
-    else Within [] (with_line_counted e) (depth + 1) (renumbered number body.section.lines) (Turns n number body)
-
 -- where expansion continues after some lines, with the state that they leave
 abbrev pub resumed : ℕ → Next → State → ExpansionPart
-resumed depth (Rest text) e = Go [] e text
-resumed depth (BehindFirst b) e = behind_first b e
-resumed depth (BehindSecond t more after) e = behind_second t more e after
-resumed depth (Turns n number body) e = repetition_part depth n number body e
+resumed depth next e = onward_part depth e (behind next)
 
 -- REPT and IF, given the value of their expression.
 abbrev pub repeated : ℕ → State → Numbered → Option BlockBody → Result ℕ MacroFault → ExpansionPart
-repeated depth e l (Some body) (Ok n) = unless_deep depth l (repetition_part depth n l.number body e)
+repeated depth e l (Some body) (Ok n) = unless_deep depth l (onward_part depth e (turns n l.number body))
 repeated depth e l (Some body) (Err fault) = fails l fault
 repeated depth e l None value = fails l MacroFault.Unclosed
 
 abbrev pub conditional : ℕ → State → Numbered → Option Branches → Result ℕ MacroFault → ExpansionPart
-conditional depth e l (Some branches) (Ok n) = branch_part n depth e branches
+conditional depth e l (Some branches) (Ok n) = onward_part depth e (branch n branches)
 conditional depth e l (Some branches) (Err fault) = fails l fault
 conditional depth e l None value = fails l MacroFault.Unclosed
 
@@ -133,7 +115,7 @@ head_part line.Nothing depth e l form tokens rest = Go (l ∷ []) e rest
 
 abbrev pub read_part : ℕ → State → Numbered → List Numbered → Result (List Lexeme) ScanFault → ExpansionPart
 read_part depth e l rest (Ok tokens) = head_part (form_of l.text).head depth (with_line_counted e) l (form_of l.text) tokens rest
-read_part depth e l rest (Err fault) = Go [] e rest
+read_part depth e l rest (Err fault) = fails l (fault_of_scan fault)
 
 abbrev pub judged_part : ℕ → State → Numbered → List Numbered → Option MacroFault → ExpansionPart
 judged_part depth e l rest (Some fault) = fails l fault

@@ -7,7 +7,7 @@ use Rattle.asm_parse.specs.Source.{Operand}
 use Rattle.asm_parse.specs.Parsed.{parsed}
 use Rattle.asm_parse.specs.declared.fault.ExprFault.{ExprFault}
 use Rattle.asm_parse.specs.declared.item.Item.{Item}
-use Rattle.asm_expr.specs.Below.{Atom, source}
+use Rattle.asm_expr.specs.Below.{Atom, source_tree}
 use Rattle.asm_expr.specs.declared.answer.Settled.{Settled}
 use Rattle.asm_expr.specs.Names.{Table}
 use Rattle.asm_expr.specs.Origins.{is_number_item}
@@ -23,7 +23,7 @@ settled_number (Err fault) = Err (fault_of_expr fault)
 
 -- the value of items: a name that is not a constant, or `$`, is reported before an error of the value
 abbrev pub worth_of_items : Table → Result (List (Item Operand)) ExprFault → Result ℕ MacroFault
-worth_of_items t (Ok items) = if list_all (is_number_item t) items then settled_number (settled t (source items)) else Err MacroFault.ConditionNamesLabel
+worth_of_items t (Ok items) = if list_all (is_number_item t) items then settled_number (settled t (source_tree items)) else Err MacroFault.ConditionNamesLabel
 worth_of_items t (Err fault) = Err (fault_of_expr fault)
 
 -- The value of tokens: the number of their expression, or the first of these errors: the tokens are no expression; a name is not a

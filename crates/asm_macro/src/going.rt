@@ -5,11 +5,12 @@ ghost use Rattle.asm_macro.specs.declared.take.TheConstants.{MOST_NESTED};
 ghost use Rattle.asm_macro.specs.declared.expansion.TheConstants.{MOST_LINES};
 ghost use Rattle.asm_line.specs.Replacing.Replaced.{ReplacementTable};
 ghost use Rattle.asm_text.specs.Lines.{Numbered};
+ghost use Rattle.asm_text.specs.Sections.Onward as onward;
 ghost use Rattle.asm_text.specs.Sections.Sections.{branches_seen};
 ghost use Rattle.asm_text.specs.Sections.Views.{next_of, onward_seen};
-ghost use Rattle.asm_macro.specs.Parts.{branch_part, resumed};
+ghost use Rattle.asm_macro.specs.Parts.{into, onward_part, resumed};
 ghost use Rattle.asm_macro.specs.Private.Frames.{innermost};
-ghost use Rattle.asm_macro.specs.Private.Going.{Enters, Fits, into, part_of, texts_opened, turn_in, turns_opened};
+ghost use Rattle.asm_macro.specs.Private.Going.{Enters, Fits, texts_opened, turn_in, turns_opened};
 ghost use Rattle.asm_macro.specs.Private.Moves.{IsSound, Resumes, most_moves, moved, rest_of, state_of, tables_in};
 
 use crate::expansion::{Expansion, MOST_LINES};
@@ -50,7 +51,7 @@ impl<'a> Expansion<'a> {
         ensures count { OnOk result (self.new.count ≡ self.old.count + turns_opened (onward_seen self.old.lines (innermost (tables_in self.old)) onward)) }
         ensures around { OnOk result (length self.new.around.items ≡ length self.old.around.items + texts_opened (onward_seen self.old.lines (innermost (tables_in self.old)) onward)) }
         ensures gone { Resumes result (rest_of self.new) (moved (rest_of self.old).depth (rest_of self.old).around
-            (part_of (rest_of self.old).depth (state_of self.old) (onward_seen self.old.lines (innermost (tables_in self.old)) onward))) }
+            (onward_part (rest_of self.old).depth (state_of self.old) (onward_seen self.old.lines (innermost (tables_in self.old)) onward))) }
     {
         match onward {
             Onward::Stray(number) => Err(Stop::At(number, MacroFault::Stray)),
@@ -74,7 +75,7 @@ impl<'a> Expansion<'a> {
         ensures count { OnOk result (self.new.count ≡ self.old.count) }
         ensures around { OnOk result (length self.new.around.items ≤ length self.old.around.items + 1) }
         ensures chosen { Resumes result (rest_of self.new) (moved (rest_of self.old).depth (rest_of self.old).around
-            (branch_part value (rest_of self.old).depth (state_of self.old) (branches_seen self.old.lines (innermost (tables_in self.old)) choice))) }
+            (onward_part (rest_of self.old).depth (state_of self.old) (onward.branch value (branches_seen self.old.lines (innermost (tables_in self.old)) choice)))) }
     {
         let onward = branch(self.alloc, &self.lines, self.calls.last(), value, choice)?;
         self.go_with(onward)

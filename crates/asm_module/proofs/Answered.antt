@@ -11,7 +11,8 @@ use Rattle.asm_module.specs.Reads.Source.{last_listed}
 use Rattle.asm_text.specs.Lines.{Numbered}
 use Rattle.zmo_object.specs.Modules.{Module}
 use Rattle.asm_module.proofs.Once.{OfLines, equ_fault_same, lines_same, module_same, program_same, state_fault_same}
-use Rattle.asm_module.specs.Assembled.{Assembled, Assembles, HasCause, IsProgram, IsStated, TellsLines, answer, assembled}
+use Rattle.asm_module.specs.Assembled.{Assembled, Assembles, HasCause, TellsLines, answer, assembled}
+use Rattle.asm_module.specs.Program.Described.{IsProgramOfLines, IsProgramOfSource}
 use Rattle.asm_module.specs.declared.fault.AsmFault.{AsmFault}
 use Rattle.asm_module.specs.Outlines.{layout}
 use Rattle.asm_module.specs.Source.{first_equ_line_fault, first_pass, module_by, state_fault, statement_lines}
@@ -86,9 +87,9 @@ module _ (one : (text : List ℕ) (lines more : List Numbered) (end other : End)
       let same = one_expanded text e f (comes text e (caused name grow count c e (subst HasCause (sym e_comes) a_has)) e_is) (comes text f (caused name grow count d f (subst HasCause (sym f_comes) b_has)) f_is) in
       sym e_comes ∙ same_assembled name grow count c d e c_tells (subst (TellsLines d) (sym same) d_tells) ∙ ap (assembled name grow count d) same ∙ f_comes
 
-  one_by_lines : (grow : Bool) (lines : List Taken) (a b : List program.Statement) → IsProgram grow lines a → IsProgram grow lines b → a ≡ b
+  one_by_lines : (grow : Bool) (lines : List Taken) (a b : List program.Statement) → IsProgramOfLines grow lines a → IsProgramOfLines grow lines b → a ≡ b
   one_by_lines grow lines a b (c, c_tells, a_is) (d, d_tells, b_is) = a_is ∙ program_same laws lines c d c_tells d_tells grow ∙ sym b_is
 
-  pub one_program : (text : List ℕ) (grow : Bool) (a b : List program.Statement) → IsStated text grow a → IsStated text grow b → a ≡ b
+  pub one_program : (text : List ℕ) (grow : Bool) (a b : List program.Statement) → IsProgramOfSource text grow a → IsProgramOfSource text grow b → a ≡ b
   one_program text grow a b (lines, (end, done, is), a_is) (more, (other, done_other, is_other), b_is) =
-      one_by_lines grow (taken lines) a b a_is (subst (λ ls. IsProgram grow (taken ls) b) (sym (one text lines more end other is is_other).0) b_is)
+      one_by_lines grow (taken lines) a b a_is (subst (λ ls. IsProgramOfLines grow (taken ls) b) (sym (one text lines more end other is is_other).0) b_is)

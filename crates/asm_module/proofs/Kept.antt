@@ -11,7 +11,7 @@ use Rattle.asm_module.specs.Program.Lines.{AreAt, program_of_lines}
 use Rattle.asm_module.specs.Rules.Object.{AreObjectNames, AreObjectStatements}
 use Rattle.zmo_object.specs.Modules.{ModuleStatement}
 use Rattle.zmo_object.specs.Rules.{IsModule, IsObjectName}
-use Rattle.asm_module.specs.Assembled.{StatesLines}
+use Rattle.asm_module.specs.Program.Described.{AreOfLines}
 use Rattle.asm_module.specs.Holding.{labels, listed}
 use Rattle.asm_module.specs.Private.Steps.{held}
 use Rattle.asm_module.proofs.Holding.Keeping.{distinct_kept, externals_kept, few_kept, labels_kept}
@@ -33,6 +33,6 @@ is_module name grow lines layout statements of_names of_statements within = reco
 }
 
 pub states_lines : (grow : Bool) (lines : List Taken) (o : Outline) (statements : List ModuleStatement) → IsOutline grow lines o
-    → AreAt statements (program_of_lines grow (outline_table lines o) (layout_of o.layout) lines) → StatesLines grow lines statements
+    → AreAt statements (program_of_lines grow (outline_table lines o) (layout_of o.layout) lines) → AreOfLines grow lines statements
 states_lines grow lines o statements outlined at =
     (_, (circle_of o, outlined.tells, refl), subst (λ l. AreAt statements (program_of_lines grow (source_table lines (circle_of o) l) l lines)) outlined.lays at)

@@ -9,12 +9,12 @@ use Rattle.std.proofs.lemmas.List.FromFn.{get_or-enumerate_from, length-enumerat
 use Rattle.std.proofs.lemmas.Map.Entries.{lookup_from_place}
 use Rattle.std.proofs.lemmas.Option.{slice_get-get_or, slice_get_within}
 use Rattle.asm_expr.specs.Equating.{equated}
-use Rattle.asm_expr.specs.Below.{source}
+use Rattle.asm_expr.specs.Below.{source_tree}
 use Rattle.asm_names.specs.Circles.{TellsCircles, items_at}
 use Rattle.asm_names.specs.declared.equ_fault.EquFault.{EquFault}
 use Rattle.asm_names.specs.Layout.{Layout}
 use Rattle.asm_names.specs.Meanings as equ
-use Rattle.asm_names.specs.Meanings.{Entries, after_rounds, name_meanings, meaning, meaning_by, table_at, undefined, valueless}
+use Rattle.asm_names.specs.Meanings.{Entries, after_rounds, name_meanings, meaning, meaning_by, table_at, undefined, expression_fault}
 use Rattle.asm_module.specs.Layouts.Laid.{laid}
 use Rattle.asm_names.specs.declared.kind.Kind.{Kind}
 use Rattle.asm_names.specs.Faults.{first, if_so}
@@ -65,7 +65,7 @@ module _ (laws : OfLines) (lines : List Taken) (c d : ℕ → Bool) (c_tells : T
       let l = laws.given lines x at is in
       let e = items_at lines at in
       let t = table_at layout known at in
-      ap (λ b. meaning_by (first (undefined (names lines) e ∷ if_so EquFault.EquCircle b ∷ valueless t e ∷ [])) (equated t (source e))) (same at (slice_get_within lines at l.0 l.1))
+      ap (λ b. meaning_by (first (undefined (names lines) e ∷ if_so EquFault.EquCircle b ∷ expression_fault t e ∷ [])) (equated t (source_tree e))) (same at (slice_get_within lines at l.0 l.1))
 
   rounds_same : (n : ℕ) (layout : Layout) → after_rounds n (names lines) lines c layout ≡ after_rounds n (names lines) lines d layout
   rounds_same zero layout = refl
@@ -80,7 +80,7 @@ module _ (laws : OfLines) (lines : List Taken) (c d : ℕ → Bool) (c_tells : T
 
   -- the errors of EQU lines
   line_same : (layout : Layout) (known : Entries) (at : ℕ) (l : Line) → at < length lines → equ.equ_line_fault (names lines) c layout known at l ≡ equ.equ_line_fault (names lines) d layout known at l
-  line_same layout known at (line.Equ name e) room = ap (λ b. first (undefined (names lines) e ∷ if_so EquFault.EquCircle b ∷ valueless (table_at layout known at) e ∷ [])) (same at room)
+  line_same layout known at (line.Equ name e) room = ap (λ b. first (undefined (names lines) e ∷ if_so EquFault.EquCircle b ∷ expression_fault (table_at layout known at) e ∷ [])) (same at room)
   line_same layout known at (line.Statement label body) room = refl
 
   equs_same : (layout : Layout) → equ.first_equ_fault (names lines) lines c layout ≡ equ.first_equ_fault (names lines) lines d layout

@@ -4,23 +4,20 @@ use Rattle.asm_names.specs.Circles.{TellsCircles}
 use Rattle.asm_macro.specs.declared.fault.MacroFault.{MacroFault}
 use Rattle.asm_macro.specs.Expands.{IsExpanded}
 use Rattle.asm_macro.specs.Texts.{source_lines}
-use Rattle.asm_names.specs.Lines.{Taken}
 use Rattle.asm_names.specs.Names.{names}
-use Rattle.asm_module.specs.Outlines.{layout, source_table}
-use Rattle.asm_module.specs.Program.Statement as stated
-use Rattle.asm_module.specs.Program.Lines.{AreAt, program_of_lines}
+use Rattle.asm_module.specs.Outlines.{layout}
 use Rattle.asm_module.specs.Reads.Read.{taken}
 use Rattle.asm_module.specs.Reads.Source.{last_listed}
 use Rattle.asm_text.specs.Lines.{Numbered}
 use Rattle.zmo_object.specs.declared.module.Module as whole
-use Rattle.zmo_object.specs.Modules.{Module, ModuleStatement, module_of}
+use Rattle.zmo_object.specs.Modules.{Module, module_of}
 use Rattle.asm_module.specs.declared.assembling.Lines as listing
 use Rattle.asm_module.specs.declared.fault.AsmFault.{AsmFault}
 use Rattle.asm_module.specs.declared.fault.Why.{Why}
 use Rattle.asm_module.specs.Source.{first_pass, module_by, source_fault, statement_lines}
 use Rattle.asm_module.specs.Whys.{macro_why}
 
--- a module, the line of each of its statements, and the last line that the listing shows
+-- a module, the number of the line of each of its statements, and the number of the last line that the listing shows
 pub record Assembled : Type 0 where
   pub holds : Module
   pub each : List ℕ
@@ -40,7 +37,7 @@ assembled name grow count circle (Ok lines) = answer (source_fault grow lines ci
   last = last_listed count (taken lines);
 })
 
--- `circle` says of each line whether it leads back to itself, if the first pass finds no error.
+-- `circle` says of each line, by its index from 0, whether its EQU leads back to itself. (If the first pass finds an error, no EQU counts.)
 abbrev pub TellsLines : (ℕ → Bool) → Result (List Numbered) (ℕ × MacroFault) → Type 0
 TellsLines circle (Ok lines) = first_pass lines ≡ None → TellsCircles (names (taken lines)) (taken lines) circle
 TellsLines circle (Err stop) = Unit {0}
@@ -74,22 +71,3 @@ IsAssembled name text grow (Err fault) = IsRefused fault.why name text grow faul
 abbrev pub IsAssembledModule : List ℕ → List ℕ → Result whole.Module AsmFault → Type 0
 IsAssembledModule name text (Ok m) = (each : List ℕ) × (last : ℕ) × Assembles name text false (Ok (record { holds = module_of m; each = each; last = last }))
 IsAssembledModule name text (Err fault) = IsRefused fault.why name text false fault
-
--- This is the program that the lines describe, once their names are settled.
-abbrev pub IsProgram : Bool → List Taken → List stated.Statement → Type 0
-IsProgram grow lines p =
-    (circle : ℕ → Bool) × TellsCircles (names lines) lines circle
-    × (p ≡ program_of_lines grow (source_table lines circle (layout grow lines circle)) (layout grow lines circle) lines)
-
--- the program that a source describes
-abbrev pub IsStated : List ℕ → Bool → List stated.Statement → Type 0
-IsStated text grow p = (lines : List Numbered) × IsExpanded text (Ok lines) × IsProgram grow (taken lines) p
-
--- The statements are those that the lines describe: they have the same sizes, jumps go to the same refs, and the bytes linked from them at
--- any addresses, short or long, are what the lines describe there.
-abbrev pub StatesLines : Bool → List Taken → List ModuleStatement → Type 0
-StatesLines grow lines statements = (p : List stated.Statement) × IsProgram grow lines p × AreAt statements p
-
--- the statements are those that the lines of a source describe
-abbrev pub States : List ℕ → Bool → List ModuleStatement → Type 0
-States text grow statements = (p : List stated.Statement) × IsStated text grow p × AreAt statements p

@@ -3,3 +3,4 @@ pub mod Pieces
 pub mod Linked
 pub mod Spelled
 pub mod Lines
+pub mod Described

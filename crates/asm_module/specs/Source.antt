@@ -1,4 +1,5 @@
--- The module of the lines of a source, or its first error.
+-- The module of the lines of a source, or its first error. `grow` is the option --grow, with which JR may become JP. `circle` says of each
+-- line, by its index from 0, whether its EQU leads back to itself.
 -- In words: docs/LANGUAGE.md, section 'Modules'.
 use Rattle.std.specs.Prelude.{ℕ, Bool, List, [], ◌∷◌, Option, map, take}
 use Rattle.std.specs.Option.{option_map}
@@ -25,7 +26,8 @@ use Rattle.asm_module.specs.Whys.{equ_why, line_why, name_why, state_why}
 abbrev pub fault_on_line : {A : Type 0} → (A → Why) → Option (ℕ × A) → Option AsmFault
 fault_on_line view fault = option_map (λ f. record { line = f.0; why = view f.1 }) fault
 
--- The first line that may not define its name, or cannot be parsed.
+-- What the first pass over the lines finds: the first line that may not define its name, or with which the source has too many statements
+-- or names; if there is none, the first line that cannot be parsed.
 abbrev pub first_pass : List Numbered → Option AsmFault
 first_pass lines = first (fault_on_line name_why (defined.first_name_fault (taken lines)) ∷ fault_on_line line_why (unread lines) ∷ [])
 
@@ -33,7 +35,7 @@ first_pass lines = first (fault_on_line name_why (defined.first_name_fault (take
 abbrev pub first_equ_line_fault : List Taken → (ℕ → Bool) → Layout → Option AsmFault
 first_equ_line_fault lines circle layout = fault_on_line equ_why (equ.first_equ_fault (names lines) lines circle layout)
 
--- The first other line that has an error.
+-- The first line, other than an EQU line, that has an error.
 abbrev pub state_fault : List Taken → (ℕ → Bool) → Layout → Option AsmFault
 state_fault lines circle layout = fault_on_line state_why (stated.first_statement_fault (names lines) (source_table lines circle layout) layout lines)
 

@@ -3,7 +3,8 @@
 ghost use Rattle.std.specs.Prelude.{IfOk, false};
 ghost use Rattle.zmo_object.specs.Modules.{module_of};
 ghost use Rattle.zmo_object.specs.Rules.{IsModule};
-ghost use Rattle.asm_module.specs.Assembled.{IsAssembled, IsAssembledModule, States};
+ghost use Rattle.asm_module.specs.Assembled.{IsAssembled, IsAssembledModule};
+ghost use Rattle.asm_module.specs.Program.Described.{AreOfSource};
 
 use crate::fault::{AsmFault, of_macro};
 use crate::first_pass::first_pass;
@@ -36,7 +37,7 @@ pub fn assemble_with(
 ) -> Result<(Module, Lines), AsmFault>
     ensures answer { IsAssembled name.now text.now grow result }
     ensures kept { IfOk result (λ r. IsModule (module_of r.0)) }
-    ensures placed { IfOk result (λ r. States text.now grow (module_of r.0).statements) }
+    ensures placed { IfOk result (λ r. AreOfSource text.now grow (module_of r.0).statements) }
 {
     asm_macro::laws::few_lines();
     let source = match read_source(alloc, text) {
@@ -57,7 +58,7 @@ pub fn assemble_with(
 pub fn assemble_listed(alloc: Global, name: &[u8], text: &[u8]) -> Result<(Module, Lines), AsmFault>
     ensures answer { IsAssembled name.now text.now false result }
     ensures kept { IfOk result (λ r. IsModule (module_of r.0)) }
-    ensures placed { IfOk result (λ r. States text.now false (module_of r.0).statements) }
+    ensures placed { IfOk result (λ r. AreOfSource text.now false (module_of r.0).statements) }
 {
     assemble_with(alloc, name, text, false)
 }
@@ -70,7 +71,7 @@ pub fn assemble_listed(alloc: Global, name: &[u8], text: &[u8]) -> Result<(Modul
 pub fn assemble(alloc: Global, name: &[u8], text: &[u8]) -> Result<Module, AsmFault>
     ensures answer { IsAssembledModule name.now text.now result }
     ensures kept { IfOk result (λ m. IsModule (module_of m)) }
-    ensures placed { IfOk result (λ m. States text.now false (module_of m).statements) }
+    ensures placed { IfOk result (λ m. AreOfSource text.now false (module_of m).statements) }
 {
     let (module, lines) = assemble_listed(alloc, name, text)?;
     drop(lines);

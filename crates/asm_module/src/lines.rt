@@ -10,7 +10,7 @@ ghost use Rattle.asm_names.specs.Names.{names};
 ghost use Rattle.asm_module.specs.Program.Spelled.{IsLineOfText};
 ghost use Rattle.zmo_object.specs.Modules.{module_of};
 ghost use Rattle.zmo_object.specs.Rules.{IsModule};
-ghost use Rattle.asm_module.specs.Assembled.{StatesLines};
+ghost use Rattle.asm_module.specs.Program.Described.{AreOfLines};
 ghost use Rattle.asm_module.specs.Private.Steps.{AnswersLines, held};
 
 use crate::fault::{AsmFault, of_equ, of_state};
@@ -70,7 +70,7 @@ pub(crate) fn assemble_lines(
     requires parsed { All (λ l. IsLineOfText l.line) (lines_of lines.items) }
     ensures answer { AnswersLines name.now grow (lines_of lines.items) result }
     ensures kept { IfOk result (λ r. IsModule (module_of r.0)) }
-    ensures placed { IfOk result (λ r. StatesLines grow (lines_of lines.items) (module_of r.0).statements) }
+    ensures placed { IfOk result (λ r. AreOfLines grow (lines_of lines.items) (module_of r.0).statements) }
 {
     let outline = outline_of(alloc, &lines, table, grow)?;
     if let Some((line, why)) = outline.settled.fault {

@@ -7,7 +7,7 @@ use Rattle.std.specs.Str.{bytes_eq}
 use Rattle.asm_parse.specs.declared.fault.ExprFault.{ExprFault}
 use Rattle.asm_parse.specs.Expression.{Expression, Leaf, Prefix, Infix, postfix}
 use Rattle.asm_parse.specs.Source.{Operand, Number, Name, Here}
-use Rattle.asm_expr.specs.Below.{Atom, modulus, unary, binary, source, tree, value}
+use Rattle.asm_expr.specs.Below.{Atom, modulus, unary, binary, source_tree, tree, value}
 use Rattle.asm_expr.specs.declared.meaning.Meaning.{Meaning}
 use Rattle.asm_expr.specs.declared.answer.Settled.{Settled}
 use Rattle.asm_expr.specs.declared.unknown.Unknown.{Unknown}
@@ -102,7 +102,7 @@ module _ (names : Names) (lines : List Taken) (circle : ℕ → Bool) (layout : 
   table n at = table_at layout (after_rounds n names lines circle layout) at
 
   abbrev items : ℕ → Expression Operand
-  items at = source (items_at lines at)
+  items at = source_tree (items_at lines at)
 
   abbrev fault_in : ℕ → ℕ → Option EquFault
   fault_in n at = equ_fault names circle (table n at) at (items_at lines at)
@@ -230,7 +230,7 @@ one_value names lines layout places at (Leaf (Name name)) _ _ (external is) (lab
 one_value names lines layout places at (Leaf (Name name)) _ n (external is) (equ other b) = absurd (cc)
 one_value names lines layout places at (Leaf (Name name)) m n (equ {line = a} is one) (equ {line = b} other two) =
     let same : a ≡ b = cc in
-    one_value names lines layout places b (source (items_at lines b)) m n (subst (λ l. HasValue names lines layout places l (source (items_at lines l)) m) same one) two
+    one_value names lines layout places b (source_tree (items_at lines b)) m n (subst (λ l. HasValue names lines layout places l (source_tree (items_at lines l)) m) same one) two
 one_value names lines layout places at (Leaf (Name name)) m _ (equ is a) (label other) = absurd (cc)
 one_value names lines layout places at (Leaf (Name name)) m _ (equ is a) (external other) = absurd (cc)
 one_value names lines layout places at (Prefix op a) _ _ (one_operand {n = m} one) (one_operand {n = n} two) = ap (unary op) (one_value names lines layout places at a m n one two)

@@ -11,7 +11,7 @@ use Rattle.asm_expr.specs.declared.meaning.Meaning.{Meaning}
 use Rattle.asm_expr.specs.Equating.{equated}
 use Rattle.asm_expr.specs.Names.{Table}
 use Rattle.asm_expr.specs.Origins.{AllBring, AreRefs, Brings}
-use Rattle.asm_expr.specs.Below.{source}
+use Rattle.asm_expr.specs.Below.{source_tree}
 use Rattle.asm_parse.specs.Expression as parsed
 use Rattle.asm_parse.specs.Source.{Operand}
 use Rattle.asm_names.specs.declared.kind.Kind.{Kind}
@@ -107,7 +107,7 @@ module _ (no_other : BringsNoOther) (names : Names) (lines : List Taken) (circle
   by_kind n x (Some (Kind.Equ at)) what kind before is =
       let same : meaning names lines circle layout (known n) x (Kind.Equ at) ≡ what = cc in
       subst (Brings (IsBelow count)) same
-      (by_fault (equ_fault names circle (table_at layout (known n) at) at (items_at lines at)) (table_at layout (known n) at) (source (items_at lines at))
+      (by_fault (equ_fault names circle (table_at layout (known n) at) at (items_at lines at)) (table_at layout (known n) at) (source_tree (items_at lines at))
       (record { here = lt-ltb (next_at layout at) count (places at); names = before }))
 
   rounds_below : (n : ℕ) (x : List ℕ) (what : Meaning) → lookup (bytes_eq x) (known n) ≡ Some what → Brings (IsBelow count) what

@@ -13,14 +13,14 @@ use Rattle.asm_parse.specs.Expression.{postfix}
 use Rattle.asm_expr.specs.declared.meaning.Meaning.{Meaning}
 use Rattle.asm_expr.specs.Names.{Table}
 use Rattle.asm_expr.specs.Equating.{equated}
-use Rattle.asm_expr.specs.Below.{only, run, source}
+use Rattle.asm_expr.specs.Below.{only, run, source_tree}
 use Rattle.asm_spell.specs.Line.{ExpressionItems}
 use Rattle.asm_names.specs.declared.kind.Kind.{Kind}
 use Rattle.asm_names.specs.Lines.{Taken}
 use Rattle.asm_names.specs.Names.{Names, kind_of_name}
 use Rattle.asm_names.specs.Circles.{equ_line, items_at, line_named, lines_named}
 use Rattle.asm_names.specs.Layout.{Layout}
-use Rattle.asm_names.specs.Meanings.{after_rounds, circular, equ_meaning, meaning, meaning_by, table_at, undefined, value_by}
+use Rattle.asm_names.specs.Meanings.{after_rounds, circular, equ_meaning, meaning, meaning_by, table_at, undefined, expression_fault_of}
 use Rattle.asm_names.specs.declared.equ_fault.EquFault.{EquFault}
 use Rattle.asm_names.specs.Faults.{first, if_so}
 use Rattle.asm_parse.specs.declared.fault.ExprFault.{ExprFault}
@@ -47,11 +47,11 @@ found_after n names lines circle layout x =
 abbrev pub round_value : ℕ → Names → List Taken → (ℕ → Bool) → Layout → ℕ → Meaning
 round_value n names lines circle layout at = equ_meaning names circle (table_at layout (after_rounds n names lines circle layout) at) at (items_at lines at)
 
-by_worth : (names : Names) (circle : ℕ → Bool) (at : ℕ) (e : ExpressionItems) (t u : Table) → equated t (source e) ≡ equated u (source e) → equ_meaning names circle t at e ≡ equ_meaning names circle u at e
-by_worth names circle at e t u is = ap (λ r. meaning_by (first (undefined names e ∷ circular circle at ∷ value_by r ∷ [])) r) is
+by_worth : (names : Names) (circle : ℕ → Bool) (at : ℕ) (e : ExpressionItems) (t u : Table) → equated t (source_tree e) ≡ equated u (source_tree e) → equ_meaning names circle t at e ≡ equ_meaning names circle u at e
+by_worth names circle at e t u is = ap (λ r. meaning_by (first (undefined names e ∷ circular circle at ∷ expression_fault_of r ∷ [])) r) is
 
 -- the names of the expression that some items make are among these items
-pub read_names : (items : ExpressionItems) (x : List ℕ) → Contains (postfix (source items)) (Item.Leaf (Name x)) → Contains items (Item.Leaf (Name x))
+pub read_names : (items : ExpressionItems) (x : List ℕ) → Contains (postfix (source_tree items)) (Item.Leaf (Name x)) → Contains items (Item.Leaf (Name x))
 read_names items x has =
     elim (run items []) as (λ r. run items [] ≡ r → Contains (postfix (only Here r)) (Item.Leaf (Name x)) → Contains items (Item.Leaf (Name x))) [
       | None ↦ λ _ here. absurd (no_name here)
@@ -70,10 +70,10 @@ agreed : (n m : ℕ) (names : Names) (lines : List Taken) (circle : ℕ → Bool
     → round_value n names lines circle layout at ≡ round_value m names lines circle layout at
 agreed n m names lines circle layout at same =
     by_worth names circle at (items_at lines at) (table_at layout (after_rounds n names lines circle layout) at) (table_at layout (after_rounds m names lines circle layout) at)
-    (equated_by_names (table_at layout (after_rounds n names lines circle layout) at) (table_at layout (after_rounds m names lines circle layout) at) (source (items_at lines at))
+    (equated_by_names (table_at layout (after_rounds n names lines circle layout) at) (table_at layout (after_rounds m names lines circle layout) at) (source_tree (items_at lines at))
     (record { here = refl; statements = refl; names = λ x has. same x (read_names (items_at lines at) x has) }))
 
-by_fault : (u : Option EquFault) (c : Bool) (r : Result Meaning ExprFault) → c ≡ true → meaning_by (first (u ∷ if_so EquFault.EquCircle c ∷ value_by r ∷ [])) r ≡ Meaning.Faulty
+by_fault : (u : Option EquFault) (c : Bool) (r : Result Meaning ExprFault) → c ≡ true → meaning_by (first (u ∷ if_so EquFault.EquCircle c ∷ expression_fault_of r ∷ [])) r ≡ Meaning.Faulty
 by_fault (Some why) c r is = refl
 by_fault None true r is = refl
 by_fault None false r is = absurd (cc)
@@ -81,7 +81,7 @@ by_fault None false r is = absurd (cc)
 -- a line on a circle has no value
 circle_value : (n : ℕ) (names : Names) (lines : List Taken) (circle : ℕ → Bool) (layout : Layout) (at : ℕ) → circle at ≡ true → round_value n names lines circle layout at ≡ Meaning.Faulty
 circle_value n names lines circle layout at is =
-    by_fault (undefined names (items_at lines at)) (circle at) (equated (table_at layout (after_rounds n names lines circle layout) at) (source (items_at lines at))) is
+    by_fault (undefined names (items_at lines at)) (circle at) (equated (table_at layout (after_rounds n names lines circle layout) at) (source_tree (items_at lines at))) is
 
 in_cons : (o : Option ℕ) (rest : List ℕ) (b : ℕ) → (o ≡ Some b) ⊎ Contains rest b → Contains (cons_option o rest) b
 in_cons None rest b (inl bad) = absurd (cc)

@@ -17,7 +17,7 @@ use Rattle.asm_parse.specs.Source.{Operand, Number, Name, Here}
 use Rattle.asm_expr.specs.declared.meaning.Meaning.{Meaning}
 use Rattle.asm_expr.specs.Equating.{equated}
 use Rattle.asm_expr.specs.Names.{found}
-use Rattle.asm_expr.specs.Below.{source}
+use Rattle.asm_expr.specs.Below.{source_tree}
 use Rattle.asm_expr.specs.Settling.{is_known}
 use Rattle.asm_expr.proofs.ByNames.{equated_by_names}
 use Rattle.asm_spell.specs.Line as line
@@ -35,7 +35,7 @@ use Rattle.asm_names.specs.declared.equ_fault.EquFault.{EquFault}
 use Rattle.asm_names.specs.declared.settling.Settling.{Settling}
 use Rattle.asm_names.specs.Circles.{TellsCircles, equ_items, items_at, lines_named, names_in}
 use Rattle.asm_names.specs.Layout.{Layout}
-use Rattle.asm_names.specs.Meanings.{after_rounds, name_meanings, equ_fault, equ_meaning, first_equ_fault, equ_line_fault, meaning, meaning_by, table_at, undefined, value_by}
+use Rattle.asm_names.specs.Meanings.{after_rounds, name_meanings, equ_fault, equ_meaning, first_equ_fault, equ_line_fault, meaning, meaning_by, table_at, undefined, expression_fault_of}
 use Rattle.asm_names.specs.Settles.{is_marked_circular}
 use Rattle.asm_names.specs.Private.Judged.{fault_by, is_named, judged}
 use Rattle.asm_names.specs.Private.Placed.{HasPlaces, place_by}
@@ -197,9 +197,9 @@ module _ (names : Names) (lines : List Taken) (layout : Layout) (turns : List Tu
 
   -- the expression of a turn's line has the value that it has in each later round
   same_worth : (q m : ℕ) (s : Settling) (e : ExpressionItems) → StandsAt q s → q < length turns → q ≤ m → items_at lines (turn_at turns q).definition ≡ e → (turn_at turns q).on_circle ≡ false
-      → equated (here_at layout (turn_at turns q) s.names) (source e) ≡ equated (table_at layout (after_rounds (suc m) names lines (is_marked_circular turns) layout) (turn_at turns q).definition) (source e)
+      → equated (here_at layout (turn_at turns q) s.names) (source_tree e) ≡ equated (table_at layout (after_rounds (suc m) names lines (is_marked_circular turns) layout) (turn_at turns q).definition) (source_tree e)
   same_worth q m s e stands room le items off =
-      equated_by_names (here_at layout (turn_at turns q) s.names) (table_at layout (after_rounds (suc m) names lines (is_marked_circular turns) layout) (turn_at turns q).definition) (source e) (record {
+      equated_by_names (here_at layout (turn_at turns q) s.names) (table_at layout (after_rounds (suc m) names lines (is_marked_circular turns) layout) (turn_at turns q).definition) (source_tree e) (record {
         here = refl;
         statements = stands.statements;
         names = λ x has_it.
@@ -212,16 +212,16 @@ module _ (names : Names) (lines : List Taken) (layout : Layout) (turns : List Tu
 
 -- A line on a circle has an error and no value, whatever its expression is.
 circle_meaning : (u : Option EquFault) (c : Bool) (r r-2 : Result Meaning ExprFault) → (c ≡ false → r ≡ r-2)
-    → meaning_by (first (u ∷ if_so EquFault.EquCircle c ∷ value_by r ∷ [])) r ≡ meaning_by (first (u ∷ if_so EquFault.EquCircle c ∷ value_by r-2 ∷ [])) r-2
+    → meaning_by (first (u ∷ if_so EquFault.EquCircle c ∷ expression_fault_of r ∷ [])) r ≡ meaning_by (first (u ∷ if_so EquFault.EquCircle c ∷ expression_fault_of r-2 ∷ [])) r-2
 circle_meaning (Some why) c r r-2 same = refl
 circle_meaning None true r r-2 same = refl
-circle_meaning None false r r-2 same = ap (λ x. meaning_by (first (value_by x ∷ [])) x) (same refl)
+circle_meaning None false r r-2 same = ap (λ x. meaning_by (first (expression_fault_of x ∷ [])) x) (same refl)
 
 circle_fault : (u : Option EquFault) (c : Bool) (r r-2 : Result Meaning ExprFault) → (c ≡ false → r ≡ r-2)
-    → first (u ∷ if_so EquFault.EquCircle c ∷ value_by r ∷ []) ≡ first (u ∷ if_so EquFault.EquCircle c ∷ value_by r-2 ∷ [])
+    → first (u ∷ if_so EquFault.EquCircle c ∷ expression_fault_of r ∷ []) ≡ first (u ∷ if_so EquFault.EquCircle c ∷ expression_fault_of r-2 ∷ [])
 circle_fault (Some why) c r r-2 same = refl
 circle_fault None true r r-2 same = refl
-circle_fault None false r r-2 same = ap (λ x. first (value_by x ∷ [])) (same refl)
+circle_fault None false r r-2 same = ap (λ x. first (expression_fault_of x ∷ [])) (same refl)
 
 -- whether each name is defined, tested by items and by names
 pub all_named : (names : Names) (e : ExpressionItems) → not (list_all (is_named names) e) ≡ list_any (λ name. is_none (kind_of_name names name)) (names_in e)
@@ -409,7 +409,7 @@ module _ (names : Names) (lines : List Taken) (layout : Layout) (turns : List Tu
       not_had true is = absurd ((known.order.in_order q (record { definition = 0; on_circle = false }) room).once (had_contains (take q turns) (turn_at turns q).definition is))
 
   judged_last : (q n : ℕ) (s : Settling) (e : ExpressionItems) → Standing (take q turns) s → q < length turns → q < n → items_at lines (turn_at turns q).definition ≡ e
-      → (meaning_by (fault_by names (turn_at turns q).on_circle (here_at layout (turn_at turns q) s.names) e) (equated (here_at layout (turn_at turns q) s.names) (source e))
+      → (meaning_by (fault_by names (turn_at turns q).on_circle (here_at layout (turn_at turns q) s.names) e) (equated (here_at layout (turn_at turns q) s.names) (source_tree e))
       ≡ equ_meaning names (is_marked_circular turns) (table_at layout (after_rounds n names lines (is_marked_circular turns) layout) (turn_at turns q).definition) (turn_at turns q).definition e)
       × (fault_by names (turn_at turns q).on_circle (here_at layout (turn_at turns q) s.names) e
       ≡ equ_fault names (is_marked_circular turns) (table_at layout (after_rounds n names lines (is_marked_circular turns) layout) (turn_at turns q).definition) (turn_at turns q).definition e)
@@ -417,16 +417,16 @@ module _ (names : Names) (lines : List Taken) (layout : Layout) (turns : List Tu
   judged_last q (suc m) s e stands room lt items =
       let t : Turn = turn_at turns q in
       let at : ℕ = t.definition in
-      let r : Result Meaning ExprFault = equated (here_at layout t s.names) (source e) in
-      let r-2 : Result Meaning ExprFault = equated (table_at layout (after_rounds (suc m) names lines (is_marked_circular turns) layout) at) (source e) in
+      let r : Result Meaning ExprFault = equated (here_at layout t s.names) (source_tree e) in
+      let r-2 : Result Meaning ExprFault = equated (table_at layout (after_rounds (suc m) names lines (is_marked_circular turns) layout) at) (source_tree e) in
       let same : t.on_circle ≡ false → r ≡ r-2 = λ off. same_worth names lines layout turns known q m s e stands room (omega (arith, lt)) items off in
       let u : Option EquFault = if_so EquFault.Undefined (not (list_all (is_named names) e)) in
       let u-2 : u ≡ undefined names e = ap (if_so EquFault.Undefined) (all_named names e) in
       let c : t.on_circle ≡ is_marked_circular turns at = told_at (lines_named names lines) turns known.order.in_order q room in (
-        circle_meaning u t.on_circle r r-2 same ∙ ap (λ v. meaning_by (first (v ∷ if_so EquFault.EquCircle t.on_circle ∷ value_by r-2 ∷ [])) r-2) u-2
-            ∙ ap (λ b. meaning_by (first (undefined names e ∷ if_so EquFault.EquCircle b ∷ value_by r-2 ∷ [])) r-2) c,
-        circle_fault u t.on_circle r r-2 same ∙ ap (λ v. first (v ∷ if_so EquFault.EquCircle t.on_circle ∷ value_by r-2 ∷ [])) u-2
-            ∙ ap (λ b. first (undefined names e ∷ if_so EquFault.EquCircle b ∷ value_by r-2 ∷ [])) c,
+        circle_meaning u t.on_circle r r-2 same ∙ ap (λ v. meaning_by (first (v ∷ if_so EquFault.EquCircle t.on_circle ∷ expression_fault_of r-2 ∷ [])) r-2) u-2
+            ∙ ap (λ b. meaning_by (first (undefined names e ∷ if_so EquFault.EquCircle b ∷ expression_fault_of r-2 ∷ [])) r-2) c,
+        circle_fault u t.on_circle r r-2 same ∙ ap (λ v. first (v ∷ if_so EquFault.EquCircle t.on_circle ∷ expression_fault_of r-2 ∷ [])) u-2
+            ∙ ap (λ b. first (undefined names e ∷ if_so EquFault.EquCircle b ∷ expression_fault_of r-2 ∷ [])) c,
       )
 
   -- What holds after one turn more.

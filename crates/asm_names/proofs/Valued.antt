@@ -15,7 +15,7 @@ use Rattle.asm_parse.specs.Expression as parsed
 use Rattle.asm_parse.specs.Expression.{postfix}
 use Rattle.asm_parse.specs.Source.{Operand, Number, Name, Here}
 use Rattle.asm_expr.specs.declared.answer.Settled.{Settled}
-use Rattle.asm_expr.specs.Below.{Atom, source}
+use Rattle.asm_expr.specs.Below.{Atom, source_tree}
 use Rattle.asm_expr.specs.declared.meaning.Meaning.{Meaning}
 use Rattle.asm_expr.specs.Types.{Worth}
 use Rattle.asm_expr.specs.Distances.{is_unsized}
@@ -35,7 +35,7 @@ use Rattle.asm_names.specs.Names.{Names, kind_of_name}
 use Rattle.asm_names.specs.declared.equ_fault.EquFault.{EquFault}
 use Rattle.asm_names.specs.Circles.{equ_items, items_at, lines_named}
 use Rattle.asm_names.specs.Layout.{Layout, next_at}
-use Rattle.asm_names.specs.Meanings.{after_rounds, name_meanings, equ_fault, external_ref, first_equ_fault, equ_line_fault, meaning, meaning_by, table_at, undefined, value_by}
+use Rattle.asm_names.specs.Meanings.{after_rounds, name_meanings, equ_fault, external_ref, first_equ_fault, equ_line_fault, meaning, meaning_by, table_at, undefined, expression_fault_of}
 use Rattle.asm_names.specs.Settles.{is_marked_circular}
 use Rattle.asm_names.specs.Private.Judged.{is_named}
 use Rattle.asm_names.proofs.Rounds.{found_after, placed_turn, read_names, round_value, turn_at, used_line}
@@ -70,13 +70,13 @@ record IsSound (names : Names) (circle : Bool) (e : ExpressionItems) (r : Result
   what : Meaning
   worth : r ≡ Ok what
 
-sound_line : (names : Names) (circle : Bool) (e : ExpressionItems) (r : Result Meaning ExprFault) → first (undefined names e ∷ if_so EquFault.EquCircle circle ∷ value_by r ∷ []) ≡ None → IsSound names circle e r
+sound_line : (names : Names) (circle : Bool) (e : ExpressionItems) (r : Result Meaning ExprFault) → first (undefined names e ∷ if_so EquFault.EquCircle circle ∷ expression_fault_of r ∷ []) ≡ None → IsSound names circle e r
 sound_line names circle e r none =
     let first_is : if_so EquFault.Undefined (not (list_all (is_named names) e)) ≡ undefined names e = ap (if_so EquFault.Undefined) (all_named names e) in
-    by (list_all (is_named names) e) circle r refl refl refl (ap (λ f. first (f ∷ if_so EquFault.EquCircle circle ∷ value_by r ∷ [])) first_is ∙ none)
+    by (list_all (is_named names) e) circle r refl refl refl (ap (λ f. first (f ∷ if_so EquFault.EquCircle circle ∷ expression_fault_of r ∷ [])) first_is ∙ none)
   where
     by : (all on : Bool) (q : Result Meaning ExprFault) → list_all (is_named names) e ≡ all → circle ≡ on → r ≡ q
-        → first (if_so EquFault.Undefined (not all) ∷ if_so EquFault.EquCircle on ∷ value_by q ∷ []) ≡ None → IsSound names circle e r
+        → first (if_so EquFault.Undefined (not all) ∷ if_so EquFault.EquCircle on ∷ expression_fault_of q ∷ []) ≡ None → IsSound names circle e r
     by false on q is-all is-on is-q bad = cc
     by true true q is-all is-on is-q bad = cc
     by true false (Err why) is-all is-on is-q bad = cc
@@ -139,12 +139,12 @@ module _ (P : Meaning → Type 0) (names : Names) (lines : List Taken) (layout :
       let e : ExpressionItems = g.2.0 in
       let items : items_at lines at ≡ e = items_there lines at g.0 g.1 ∙ ap equ_items g.2.1 in
       let none_at : equ_fault names (is_marked_circular turns) (table at) at e ≡ None = no_fault at g.0 name e g.1 g.2.1 in
-      let sound : IsSound names (is_marked_circular turns at) e (equated (table at) (source e)) = sound_line names (is_marked_circular turns at) e (equated (table at) (source e)) none_at in
+      let sound : IsSound names (is_marked_circular turns at) e (equated (table at) (source_tree e)) = sound_line names (is_marked_circular turns at) e (equated (table at) (source_tree e)) none_at in
       let off : (turn_at turns q).on_circle ≡ false = told_at (lines_named names lines) turns known.order.in_order q room ∙ sound.straight in
       let worth : round_value (suc (length lines)) names lines (is_marked_circular turns) layout at ≡ sound.what =
-      ap (λ i. meaning_by (equ_fault names (is_marked_circular turns) (table at) at i) (equated (table at) (source i))) items
-      ∙ ap (λ f. meaning_by f (equated (table at) (source e))) none_at ∙ ap (meaning_by None) sound.worth in
-      let used : NamesAre P (table at) (postfix (source e)) = λ x has.
+      ap (λ i. meaning_by (equ_fault names (is_marked_circular turns) (table at) at i) (equated (table at) (source_tree i))) items
+      ∙ ap (λ f. meaning_by f (equated (table at) (source_tree e))) none_at ∙ ap (meaning_by None) sound.worth in
+      let used : NamesAre P (table at) (postfix (source_tree e)) = λ x has.
       let among : Contains e (Item.Leaf (Name x)) = read_names e x has in
       by_kind x (kind_of_name names x) refl (passes (is_named names) e (Item.Leaf (Name x)) sound.named among)
       (λ b k. (
@@ -152,7 +152,7 @@ module _ (P : Meaning → Type 0) (names : Names) (lines : List Taken) (layout :
       let r = placed_turn turns q b ((known.order.in_order q (record { definition = 0; on_circle = false }) room).behind off b uses) in
       subst (λ a. P (last a)) r.3 (turn_holds bound r.0 (let lt = r.1 in omega (arith, lt, below)) r.2 x (k ∙ ap (λ a. Some (Kind.Equ a)) (sym r.3)))
       )) in
-      subst P (sym (settled_at q room ∙ worth)) (passed (table at) refl (source e) used sound.what sound.worth)
+      subst P (sym (settled_at q room ∙ worth)) (passed (table at) refl (source_tree e) used sound.what sound.worth)
 
   line_holds : (x : List ℕ) (b : ℕ) → kind_of_name names x ≡ Some (Kind.Equ b) → P (last b)
   line_holds x b kind =

@@ -7,7 +7,7 @@ use Rattle.asm_parse.specs.declared.operator.Unary.{Unary}
 use Rattle.asm_parse.specs.declared.operator.Binary.{Binary}
 use Rattle.asm_parse.specs.Expression.{Expression, Leaf, Prefix, Infix}
 use Rattle.asm_parse.specs.Source.{Operand, Number, Name, Here}
-use Rattle.asm_expr.specs.Below.{modulus, unary, binary, source}
+use Rattle.asm_expr.specs.Below.{modulus, unary, binary, source_tree}
 use Rattle.asm_names.specs.declared.kind.Kind.{Kind}
 use Rattle.asm_names.specs.Circles.{items_at}
 use Rattle.asm_names.specs.Layout.{Layout, next_at}
@@ -27,10 +27,10 @@ pub data HasValue (names : Names) (lines : List Taken) (layout : Layout) (places
   -- an external is the address that the linker finds for it
   external : {at : ℕ} {name : List ℕ} → kind_of_name names name ≡ Some Kind.External
       → HasValue names lines layout places at (Leaf (Name name)) (places (external_ref names layout name) % modulus)
-  -- a name that EQU defines has the value of the expression in its own line
-  equ : {at line n : ℕ} {name : List ℕ} → kind_of_name names name ≡ Some (Kind.Equ line) → HasValue names lines layout places line (source (items_at lines line)) n
+  -- a name that EQU defines has the value of the expression in its own line, where `$` means that line and not the one that uses the name
+  equ : {at line n : ℕ} {name : List ℕ} → kind_of_name names name ≡ Some (Kind.Equ line) → HasValue names lines layout places line (source_tree (items_at lines line)) n
       → HasValue names lines layout places at (Leaf (Name name)) n
-  -- an operator takes the values of its operands
+  -- an operator takes the values of its operands (a division by 0 counts as 0 here; in a source it is an error)
   one_operand : {at n : ℕ} {op : Unary} {a : Expression Operand} → HasValue names lines layout places at a n → HasValue names lines layout places at (Prefix op a) (unary op n)
   two_operands : {at m n : ℕ} {op : Binary} {a b : Expression Operand} → HasValue names lines layout places at a m → HasValue names lines layout places at b n
       → HasValue names lines layout places at (Infix op a b) (binary op m n)

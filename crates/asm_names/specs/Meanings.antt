@@ -8,7 +8,7 @@ use Rattle.asm_parse.specs.declared.fault.ExprFault.{ExprFault}
 use Rattle.asm_expr.specs.declared.meaning.Meaning.{Meaning}
 use Rattle.asm_expr.specs.Equating.{equated}
 use Rattle.asm_expr.specs.Names.{Table}
-use Rattle.asm_expr.specs.Below.{source}
+use Rattle.asm_expr.specs.Below.{source_tree}
 use Rattle.asm_spell.specs.Line.{ExpressionItems, Line, Equ}
 use Rattle.asm_names.specs.declared.kind.Kind.{Kind}
 use Rattle.asm_names.specs.Faults.{first, if_so}
@@ -36,17 +36,18 @@ undefined names e = if_so EquFault.Undefined (list_any (λ name. is_none (kind_o
 abbrev pub circular : (ℕ → Bool) → ℕ → Option EquFault
 circular circle at = if_so EquFault.EquCircle (circle at)
 
-abbrev pub value_by : {A : Type 0} → Result A ExprFault → Option EquFault
-value_by (Ok what) = None
-value_by (Err why) = Some (EquFault.Expr why)
+-- the error of an expression that has no value
+abbrev pub expression_fault_of : {A : Type 0} → Result A ExprFault → Option EquFault
+expression_fault_of (Ok what) = None
+expression_fault_of (Err why) = Some (EquFault.Expr why)
 
--- the expression has an error of its own
-abbrev pub valueless : Table → ExpressionItems → Option EquFault
-valueless t e = value_by (equated t (source e))
+-- the expression has no value: it has an error of its own, or a value in it is not allowed there
+abbrev pub expression_fault : Table → ExpressionItems → Option EquFault
+expression_fault t e = expression_fault_of (equated t (source_tree e))
 
 -- the first error of the EQU in line `at`
 abbrev pub equ_fault : Names → (ℕ → Bool) → Table → ℕ → ExpressionItems → Option EquFault
-equ_fault names circle t at e = first (undefined names e ∷ circular circle at ∷ valueless t e ∷ [])
+equ_fault names circle t at e = first (undefined names e ∷ circular circle at ∷ expression_fault t e ∷ [])
 
 -- What a name stands for.
 
@@ -56,7 +57,7 @@ meaning_by _ _ = Meaning.Faulty
 
 -- what a name stands for that EQU defines: the value of the expression, if the line has no error
 abbrev pub equ_meaning : Names → (ℕ → Bool) → Table → ℕ → ExpressionItems → Meaning
-equ_meaning names circle t at e = meaning_by (equ_fault names circle t at e) (equated t (source e))
+equ_meaning names circle t at e = meaning_by (equ_fault names circle t at e) (equated t (source_tree e))
 
 abbrev pub external_in : List ℕ × Kind → Option (List ℕ)
 external_in (name, Kind.External) = Some name
@@ -76,8 +77,8 @@ meaning names lines circle layout known name (Kind.Label at) = Meaning.Label (ne
 meaning names lines circle layout known name Kind.External = Meaning.External (external_ref names layout name)
 meaning names lines circle layout known name (Kind.Equ at) = equ_meaning names circle (table_at layout known at) at (items_at lines at)
 
--- What is known about names after some rounds. Before the first round nothing is known. Each round finds what every name stands for
--- from what was known before it.
+-- What is known about names after some rounds. Before the first round nothing is known: each name counts as one whose line has an error.
+-- Each round finds what every name stands for from what was known before it.
 abbrev pub after_rounds : ℕ → Names → List Taken → (ℕ → Bool) → Layout → Entries
 after_rounds zero names lines circle layout = map (λ d. (d.0, Meaning.Faulty)) names
 after_rounds (suc n) names lines circle layout = map (λ d. (d.0, meaning names lines circle layout (after_rounds n names lines circle layout) d.0 d.1)) names

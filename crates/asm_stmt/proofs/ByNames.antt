@@ -11,7 +11,7 @@ use Rattle.asm_expr.specs.declared.answer.Settled.{Settled}
 use Rattle.asm_expr.specs.Names.{Table, found}
 use Rattle.asm_expr.specs.Offsets.{offset}
 use Rattle.asm_expr.specs.Origins.{AgreeOn}
-use Rattle.asm_expr.specs.Below.{source}
+use Rattle.asm_expr.specs.Below.{source_tree}
 use Rattle.asm_expr.specs.Settling.{fault, is_constant_item, settled, unless_fault}
 use Rattle.asm_spell.specs.declared.fault.StmtFault.{StmtFault}
 use Rattle.asm_spell.specs.Faults.{each}
@@ -24,7 +24,7 @@ use Rattle.zmo_object.specs.declared.module.hole.Width.{Width}
 use Rattle.asm_stmt.specs.declared.cell.Cell.{Cell}
 use Rattle.asm_stmt.specs.declared.cell.Filling.{Filling}
 use Rattle.asm_stmt.specs.Fields.{as_stmt, byte, distance_or, field_filling, fixed, settled_in, word_filling}
-use Rattle.asm_stmt.specs.Made.{Nothing, all_laid, cells, code, coded, is_origin, jump_by, long_jump, made, number_in, ref_of, short_by, space_of_size, space_fill, space_size, value_cells}
+use Rattle.asm_stmt.specs.Made.{Nothing, items_made, cells, code, coded, is_origin, jump_by, long_jump, made, number_in, ref_of, short_by, space_of_size, space_fill, space_size, value_cells}
 
 -- Names stand for the same in both tables, and `$` and the statements are the same.
 pub record AreSame (t u : Table) : Type 0 where
@@ -52,7 +52,7 @@ module _ (settled_by : AlikeBy settled) (constant_by : AlikeBy (λ t e. list_all
   same_settled e = settled_by t u e (agree e)
 
   same_in : (e : line.ExpressionItems) → settled_in t e ≡ settled_in u e
-  same_in e = ap as_stmt (same_settled (source e))
+  same_in e = ap as_stmt (same_settled (source_tree e))
 
   same_fault : (e : Expression Operand) → fault t e ≡ fault u e
   same_fault e = sym (faulty_is (fault t e) _) ∙ ap faulty (same_settled e) ∙ faulty_is (fault u e) _
@@ -63,7 +63,7 @@ module _ (settled_by : AlikeBy settled) (constant_by : AlikeBy (λ t e. list_all
   -- What fills a field.
 
   same_filled : (field : Field) (e : line.ExpressionItems) → field_filling t field e ≡ field_filling u field e
-  same_filled Field.Distance e = ap (λ f. distance_or f (offset t (source e))) (same_fault (source e)) ∙ ap (distance_or (fault u (source e))) (same_offset (source e))
+  same_filled Field.Distance e = ap (λ f. distance_or f (offset t (source_tree e))) (same_fault (source_tree e)) ∙ ap (distance_or (fault u (source_tree e))) (same_offset (source_tree e))
   same_filled Field.Byte e = ap (λ r. r >>= byte) (same_in e)
   same_filled Field.Word e = ap (λ r. r >>= λ s. Ok (word_filling s)) (same_in e)
   same_filled field e = ap (λ r. r >>= fixed field) (same_in e)
@@ -84,8 +84,8 @@ module _ (settled_by : AlikeBy settled) (constant_by : AlikeBy (λ t e. list_all
 
   same_size : (e : line.ExpressionItems) → space_size t e ≡ space_size u e
   same_size e =
-      ap (λ b. settled_in t e >>= λ s. if b then Ok s else Err StmtFault.SizeNamesLabel) (constant_by t u (source e) (agree (source e)))
-      ∙ ap (λ r. r >>= λ s. if list_all (is_constant_item u) (postfix (source e)) then Ok s else Err StmtFault.SizeNamesLabel) (same_in e)
+      ap (λ b. settled_in t e >>= λ s. if b then Ok s else Err StmtFault.SizeNamesLabel) (constant_by t u (source_tree e) (agree (source_tree e)))
+      ∙ ap (λ r. r >>= λ s. if list_all (is_constant_item u) (postfix (source_tree e)) then Ok s else Err StmtFault.SizeNamesLabel) (same_in e)
 
   same_fill : (fill : Option line.ExpressionItems) → space_fill t fill ≡ space_fill u fill
   same_fill None = refl
@@ -95,8 +95,8 @@ module _ (settled_by : AlikeBy settled) (constant_by : AlikeBy (λ t e. list_all
   same_made (line.Code instr numbers) = same_code instr numbers
   same_made (line.Jump condition target) = ap (λ m. jump_by (ref_of m) t condition target) (same.names target) ∙ same_jump condition target (ref_of (found u target))
   same_made (line.Short branch target) = ap (λ m. short_by (ref_of m) branch) (same.names target)
-  same_made (line.Bytes values) = ap (λ (f : Value → Result (List Cell) StmtFault). all_laid (each f values)) (fun_ext same_value)
-  same_made (line.Words fields) = ap (λ (f : line.ExpressionItems → Result (List Cell) StmtFault). all_laid (each f fields)) (fun_ext (same_cells Width.Word Field.Word))
+  same_made (line.Bytes values) = ap (λ (f : Value → Result (List Cell) StmtFault). items_made (each f values)) (fun_ext same_value)
+  same_made (line.Words fields) = ap (λ (f : line.ExpressionItems → Result (List Cell) StmtFault). items_made (each f fields)) (fun_ext (same_cells Width.Word Field.Word))
   same_made (line.Space size fill) =
       ap (λ r. r >>= λ s. space_fill t fill >>= λ f. Ok (space_of_size (number_in s) f)) (same_size size)
       ∙ ap (λ r. space_size u size >>= λ s. r >>= λ f. Ok (space_of_size (number_in s) f)) (same_fill fill)

@@ -6,7 +6,7 @@ use Rattle.std.proofs.lemmas.List.Concat.{flat_map-append}
 use Rattle.asm_spell.specs.Faults.{Fails, each}
 use Rattle.asm_stmt.specs.declared.cell.Cell.{Cell}
 use Rattle.asm_stmt.specs.declared.data.Laid.{Laid}
-use Rattle.asm_stmt.specs.Made.{Fillings, Made, all_laid, laid_cells, number_filled}
+use Rattle.asm_stmt.specs.Made.{Fillings, Made, items_made, cells_made, number_filled}
 use Rattle.asm_stmt.specs.Private.Laying.{Codes, Lays, Puts}
 use Rattle.asm_stmt.specs.declared.code.Coded.{Coded}
 use Rattle.asm_stmt.proofs.Making.{flat}
@@ -68,11 +68,11 @@ reads_step read all rest x old new r p = record {
   lays = subst (λ cells. Lays cells new) (ap (λ cs. flat r.done ++ cs) (sym (append-nil p.0)) ∙ sym (flat_map-append (λ some. some) r.done (p.0 ∷ []))) p.2;
 }
 
-pub reads_refused : {A : Type 0} (read : A → Result (List Cell) StmtFault) (all rest : List A) (x : A) (l : Laid) (why : StmtFault) → Reads read all (x ∷ rest) l → Fails why (read x) → Fails why (all_laid (each read all))
-reads_refused read all rest x l why r f = fails_so why (read x) (all_laid (each read all)) (λ is. ap all_laid (refused read all rest r.done x why is r.goes)) f
+pub reads_refused : {A : Type 0} (read : A → Result (List Cell) StmtFault) (all rest : List A) (x : A) (l : Laid) (why : StmtFault) → Reads read all (x ∷ rest) l → Fails why (read x) → Fails why (items_made (each read all))
+reads_refused read all rest x l why r f = fails_so why (read x) (items_made (each read all)) (λ is. ap items_made (refused read all rest r.done x why is r.goes)) f
 
-pub reads_end : {A : Type 0} (read : A → Result (List Cell) StmtFault) (all : List A) (l : Laid) (m : Made) → (r : Reads read all [] l) → m ≡ laid_cells (flat r.done) → all_laid (each read all) ≡ Ok m
-reads_end read all l m r is = ap all_laid (ended read all r.done r.goes) ∙ ap (λ x. Ok x) (sym is)
+pub reads_end : {A : Type 0} (read : A → Result (List Cell) StmtFault) (all : List A) (l : Laid) (m : Made) → (r : Reads read all [] l) → m ≡ cells_made (flat r.done) → items_made (each read all) ≡ Ok m
+reads_end read all l m r is = ap items_made (ended read all r.done r.goes) ∙ ap (λ x. Ok x) (sym is)
 
 -- The numbers read so far are put into the instruction.
 pub record Numbered (t : Table) (instr : Instr) (all rest : List (Field × ExpressionItems)) (c : Coded) : Type 0 where

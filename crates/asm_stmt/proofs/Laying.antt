@@ -4,7 +4,7 @@ use Rattle.std.proofs.lemmas.List.Concat.{flat_map-append}
 use Rattle.std.proofs.lemmas.List.Folds.{list_all-append}
 use Rattle.asm_stmt.specs.declared.cell.Cell.{Cell}
 use Rattle.zmo_object.specs.declared.module.hole.Width.{Width}
-use Rattle.asm_stmt.specs.Cells.{all_told, bytes, cell_bytes, hole, holes, is_told, number_or_0, written}
+use Rattle.asm_stmt.specs.Cells.{all_filled, bytes, cell_bytes, hole, holes, is_filled, number_or_0, written}
 use Rattle.zmo_object.specs.Holes.{width_size}
 use Rattle.asm_stmt.specs.declared.data.Laid.{Laid}
 use Rattle.asm_stmt.specs.Private.Laying.{Lays}
@@ -36,16 +36,16 @@ pub and_true : (b : Bool) → (b && true) ≡ b
 and_true true = refl
 and_true false = refl
 
-pub told-append : (xs : List Cell) (c : Cell) → all_told (xs ++ c ∷ []) ≡ (all_told xs && is_told c.filling)
-told-append xs c = list_all-append (λ d. is_told d.filling) xs (c ∷ []) ∙ ap (λ b. all_told xs && b) (and_true (is_told c.filling))
+pub told-append : (xs : List Cell) (c : Cell) → all_filled (xs ++ c ∷ []) ≡ (all_filled xs && is_filled c.filling)
+told-append xs c = list_all-append (λ d. is_filled d.filling) xs (c ∷ []) ∙ ap (λ b. all_filled xs && b) (and_true (is_filled c.filling))
 
 -- One more field is put in.
 pub one_more : (cells : List Cell) (c : Cell) (old new : Laid) → Lays cells old → new.bytes.items ≡ old.bytes.items ++ cell_bytes c
-    → new.holes.items ≡ old.holes.items ++ hole (length old.bytes.items) c.width c.filling → new.told ≡ (old.told && is_told c.filling) → Lays (cells ++ c ∷ []) new
+    → new.holes.items ≡ old.holes.items ++ hole (length old.bytes.items) c.width c.filling → new.told ≡ (old.told && is_filled c.filling) → Lays (cells ++ c ∷ []) new
 one_more cells c old new l put holed told = record {
   bytes = put ∙ ap (λ bs. bs ++ cell_bytes c) l.bytes ∙ sym (bytes-append cells c);
   holes = holed ∙ ap (λ hs. hs ++ hole (length old.bytes.items) c.width c.filling) l.holes ∙ ap (λ bs. holes 0 cells ++ hole (length bs) c.width c.filling) l.bytes ∙ sym (hole-append cells c);
-  told = told ∙ ap (λ b. b && is_told c.filling) l.told ∙ sym (told-append cells c);
+  told = told ∙ ap (λ b. b && is_filled c.filling) l.told ∙ sym (told-append cells c);
 }
 
 -- The bytes of a string.
@@ -59,7 +59,7 @@ text_holes : (at : ℕ) (text : List ℕ) → holes at (map text_cell text) ≡ 
 text_holes at [] = refl
 text_holes at (b ∷ text) = text_holes (at + 1) text
 
-text_told : (text : List ℕ) → all_told (map text_cell text) ≡ true
+text_told : (text : List ℕ) → all_filled (map text_cell text) ≡ true
 text_told [] = refl
 text_told (b ∷ text) = text_told text
 
@@ -68,5 +68,5 @@ pub text_more : (cells : List Cell) (text : List ℕ) (old new : Laid) → ((k :
 text_more cells text old new small l put holed told = record {
   bytes = put ∙ ap (λ bs. bs ++ text) l.bytes ∙ ap (λ bs. bytes cells ++ bs) (sym (text_bytes text small)) ∙ sym (flat_map-append cell_bytes cells (map text_cell text));
   holes = ap (λ hs. hs.items) holed ∙ l.holes ∙ sym (holes-append 0 cells (map text_cell text) ∙ ap (λ hs. holes 0 cells ++ hs) (text_holes _ text) ∙ append-nil (holes 0 cells));
-  told = told ∙ l.told ∙ sym (list_all-append (λ d. is_told d.filling) cells (map text_cell text) ∙ ap (λ b. all_told cells && b) (text_told text) ∙ and_true (all_told cells));
+  told = told ∙ l.told ∙ sym (list_all-append (λ d. is_filled d.filling) cells (map text_cell text) ∙ ap (λ b. all_filled cells && b) (text_told text) ∙ and_true (all_filled cells));
 }

@@ -14,7 +14,7 @@ use Rattle.asm_expr.specs.declared.meaning.Meaning.{Meaning}
 use Rattle.asm_expr.specs.Types.{Statement}
 use Rattle.asm_expr.specs.Names.{Table, found}
 use Rattle.asm_expr.specs.Origins.{AgreeOn, is_number_item, is_number_name}
-use Rattle.asm_expr.specs.Below.{source}
+use Rattle.asm_expr.specs.Below.{source_tree}
 use Rattle.asm_expr.specs.Settling.{fault, is_constant_item, is_constant_name, items_known, known, meant, reduced, replaced, settled, unknown_of}
 use Rattle.asm_expr.proofs.Answers.{items_back}
 use Rattle.asm_expr.proofs.Fixed.{same}
@@ -179,33 +179,33 @@ whole_known t e items is =
     (whole.whole, whole.known)
 
 -- If the size of a DS is known, each name in it is a number.
-known_of_numbers : (t : Table) (e : line.ExpressionItems) (n : ℕ) → size_in (space_size t e) ≡ Some n → list_all (is_number_item t) (postfix (source e)) ≡ true
+known_of_numbers : (t : Table) (e : line.ExpressionItems) (n : ℕ) → size_in (space_size t e) ≡ Some n → list_all (is_number_item t) (postfix (source_tree e)) ≡ true
 known_of_numbers t e n is = by_answer (space_size t e) refl is
   where
-    by_answer : (r : Result Settled StmtFault) → space_size t e ≡ r → size_in r ≡ Some n → list_all (is_number_item t) (postfix (source e)) ≡ true
+    by_answer : (r : Result Settled StmtFault) → space_size t e ≡ r → size_in r ≡ Some n → list_all (is_number_item t) (postfix (source_tree e)) ≡ true
     by_answer (Err why) was is = cc
     by_answer (Ok s) was is =
         let items = number_in_ok s n is in
         let so = space_settled t e s was in
-        let whole = whole_known t (source e) items.0 (so.0 ∙ ap (λ x. Ok x) items.1) in
-        of_numbers t (source e) whole.0 whole.1 so.1
+        let whole = whole_known t (source_tree e) items.0 (so.0 ∙ ap (λ x. Ok x) items.1) in
+        of_numbers t (source_tree e) whole.0 whole.1 so.1
 
-space_same : Laws → (t u : Table) → IsLike t u → (e : line.ExpressionItems) → list_all (is_number_item t) (postfix (source e)) ≡ true → space_size t e ≡ space_size u e
+space_same : Laws → (t u : Table) → IsLike t u → (e : line.ExpressionItems) → list_all (is_number_item t) (postfix (source_tree e)) ≡ true → space_size t e ≡ space_size u e
 space_same laws t u like e all =
-    let there = sym (items_like t u like (postfix (source e))) ∙ all in
-    ap (λ r. as_stmt r >>= λ s. if list_all (is_constant_item t) (postfix (source e)) then Ok s else Err StmtFault.SizeNamesLabel) (same_settled laws t u like (source e) all)
-    ∙ ap (λ b. as_stmt (settled u (source e)) >>= λ s. if b then Ok s else Err StmtFault.SizeNamesLabel) (numbers_constant t (postfix (source e)) all ∙ sym (numbers_constant u (postfix (source e)) there))
+    let there = sym (items_like t u like (postfix (source_tree e))) ∙ all in
+    ap (λ r. as_stmt r >>= λ s. if list_all (is_constant_item t) (postfix (source_tree e)) then Ok s else Err StmtFault.SizeNamesLabel) (same_settled laws t u like (source_tree e) all)
+    ∙ ap (λ b. as_stmt (settled u (source_tree e)) >>= λ s. if b then Ok s else Err StmtFault.SizeNamesLabel) (numbers_constant t (postfix (source_tree e)) all ∙ sym (numbers_constant u (postfix (source_tree e)) there))
 
 size_same : Laws → (t u : Table) → IsLike t u → (e : line.ExpressionItems) → size_in (space_size t e) ≡ size_in (space_size u e)
-size_same laws t u like e = by_test (list_all (is_number_item t) (postfix (source e))) refl
+size_same laws t u like e = by_test (list_all (is_number_item t) (postfix (source_tree e))) refl
   where
-    none : (v : Table) → list_all (is_number_item v) (postfix (source e)) ≡ false → (o : Option ℕ) → size_in (space_size v e) ≡ o → o ≡ None
+    none : (v : Table) → list_all (is_number_item v) (postfix (source_tree e)) ≡ false → (o : Option ℕ) → size_in (space_size v e) ≡ o → o ≡ None
     none v other None is = refl
     none v other (Some n) is = absurd (false≢true (sym other ∙ known_of_numbers v e n is))
 
-    by_test : (b : Bool) → list_all (is_number_item t) (postfix (source e)) ≡ b → size_in (space_size t e) ≡ size_in (space_size u e)
+    by_test : (b : Bool) → list_all (is_number_item t) (postfix (source_tree e)) ≡ b → size_in (space_size t e) ≡ size_in (space_size u e)
     by_test true all = ap size_in (space_same laws t u like e all)
-    by_test false other = none t other _ refl ∙ sym (none u (sym (items_like t u like (postfix (source e))) ∙ other) _ refl)
+    by_test false other = none t other _ refl ∙ sym (none u (sym (items_like t u like (postfix (source_tree e))) ∙ other) _ refl)
 
 pub like : Laws → (t u : Table) (b : line.Body) → IsLike t u → size.sized t b ≡ size.sized u b
 like laws t u (line.Jump condition target) is = ap (λ s. Some s) (jump_kind (found t target) ∙ ap jump_by (is target) ∙ sym (jump_kind (found u target)))

@@ -10,7 +10,7 @@ use Rattle.asm_expr.specs.declared.answer.Settled.{Settled}
 use Rattle.asm_expr.specs.Below.{Atom}
 use Rattle.asm_expr.specs.declared.unknown.Unknown.{Unknown}
 use Rattle.asm_expr.specs.Names.{Table}
-use Rattle.asm_expr.specs.Below.{source}
+use Rattle.asm_expr.specs.Below.{source_tree}
 use Rattle.asm_expr.specs.Settling.{is_constant_item, settled, settled_as, unless_fault}
 use Rattle.z80_instr.specs.declared.Branch.{Branch}
 use Rattle.z80_instr.specs.declared.Instr.{Instr}
@@ -23,10 +23,10 @@ use Rattle.asm_spell.specs.Faults.{each}
 use Rattle.asm_spell.specs.Line as line
 use Rattle.asm_stmt.specs.declared.cell.Cell.{Cell}
 use Rattle.asm_stmt.specs.declared.cell.Filling.{Filling}
-use Rattle.asm_stmt.specs.Cells.{all_told, bytes, holes, is_told, number_or_0}
+use Rattle.asm_stmt.specs.Cells.{all_filled, bytes, holes, is_filled, number_or_0}
 use Rattle.asm_stmt.specs.Fields.{as_stmt, number, settled_in}
 use Rattle.asm_stmt.specs.Made as made
-use Rattle.asm_stmt.specs.Made.{Fillings, Made, Nothing, Piece, Some_piece, all_laid, code_hole, coded, fillings, is_origin, laid_cells, long_jump, number_in, space_of_size, space_fill, space_size}
+use Rattle.asm_stmt.specs.Made.{Fillings, Made, Nothing, Piece, Some_piece, items_made, code_hole, coded, fillings, is_origin, cells_made, long_jump, number_in, space_of_size, space_fill, space_size}
 
 -- If two steps succeed, the first one did and the second one did with its result.
 pub bind_ok : {A B : Type 0} (r : Result A StmtFault) (g : A → Result B StmtFault) (y : B) → (r >>= g) ≡ Ok y → (x : A) × (r ≡ Ok x) × (g x ≡ Ok y)
@@ -73,14 +73,14 @@ each_holds P read none more (x ∷ xs) all is =
 pub record IsData {A : Type 0} (read : A → Result (List Cell) StmtFault) (xs : List A) (p : Piece) : Type 0 where
   pub cells : List (List Cell)
   pub is : each read xs ≡ Ok cells
-  pub told : all_told (flat cells) ≡ true
+  pub told : all_filled (flat cells) ≡ true
   pub piece : made.Bytes (bytes (flat cells)) (holes 0 (flat cells)) ≡ p
 
-pub data_made : {A : Type 0} (read : A → Result (List Cell) StmtFault) (xs : List A) (p : Piece) → all_laid (each read xs) ≡ Ok (Some_piece p) → IsData read xs p
+pub data_made : {A : Type 0} (read : A → Result (List Cell) StmtFault) (xs : List A) (p : Piece) → items_made (each read xs) ≡ Ok (Some_piece p) → IsData read xs p
 data_made read xs p is =
     let all = bind_ok (each read xs) _ (Some_piece p) is in
-    let whole : laid_cells (flat all.0) ≡ Some_piece p = cc in
-    let piece = laid_piece (all_told (flat all.0)) (made.Bytes (bytes (flat all.0)) (holes 0 (flat all.0))) p whole in
+    let whole : cells_made (flat all.0) ≡ Some_piece p = cc in
+    let piece = laid_piece (all_filled (flat all.0)) (made.Bytes (bytes (flat all.0)) (holes 0 (flat all.0))) p whole in
     record { cells = all.0; is = all.1; told = piece.0; piece = piece.1 }
 
 -- An instruction whose numbers are all known makes a piece.
@@ -90,14 +90,14 @@ blank_of ns instr = with_numbers (map (λ n. (n.0, number_or_0 n.1)) ns) instr
 pub record IsCode (t : Table) (instr : Instr) (numbers : List (Field × line.ExpressionItems)) (p : Piece) : Type 0 where
   pub read : Fillings
   pub is : fillings t numbers ≡ Ok read
-  pub told : list_all (λ n. is_told n.1) read ≡ true
+  pub told : list_all (λ n. is_filled n.1) read ≡ true
   pub piece : made.Bytes (canonical (blank_of read instr)) (flat_map (code_hole (length (canonical instr))) read) ≡ p
 
 pub code_made : (t : Table) (instr : Instr) (numbers : List (Field × line.ExpressionItems)) (p : Piece) → made.code t instr numbers ≡ Ok (Some_piece p) → IsCode t instr numbers p
 code_made t instr numbers p is =
     let all = bind_ok (fillings t numbers) (λ read. Ok (coded instr read)) (Some_piece p) is in
     let whole : coded instr all.0 ≡ Some_piece p = cc in
-    let piece = laid_piece (list_all (λ n. is_told n.1) all.0) (made.Bytes (canonical (blank_of all.0 instr)) (flat_map (code_hole (length (canonical instr))) all.0)) p whole in
+    let piece = laid_piece (list_all (λ n. is_filled n.1) all.0) (made.Bytes (canonical (blank_of all.0 instr)) (flat_map (code_hole (length (canonical instr))) all.0)) p whole in
     record { read = all.0; is = all.1; told = piece.0; piece = piece.1 }
 
 -- Putting in a number does not change how many bytes an instruction has.
@@ -135,11 +135,11 @@ space_made t size fill m is =
     let second = bind_ok (space_fill t fill) (λ f. Ok (space_of_size (number_in first.0) f)) m first.2 in
     record { settled = first.0; filling = second.0; size = first.1; fill = second.1; is = cc }
 
-pub space_settled : (t : Table) (e : line.ExpressionItems) (s : Settled) → space_size t e ≡ Ok s → (settled t (source e) ≡ Ok s) × (list_all (is_constant_item t) (postfix (source e)) ≡ true)
+pub space_settled : (t : Table) (e : line.ExpressionItems) (s : Settled) → space_size t e ≡ Ok s → (settled t (source_tree e) ≡ Ok s) × (list_all (is_constant_item t) (postfix (source_tree e)) ≡ true)
 space_settled t e s is =
     let first = bind_ok (settled_in t e) _ s is in
-    let chosen = chosen_ok (list_all (is_constant_item t) (postfix (source e))) first.0 s StmtFault.SizeNamesLabel first.2 in
-    (as_stmt_ok (settled t (source e)) s (first.1 ∙ ap (λ x. Ok x) chosen.1), chosen.0)
+    let chosen = chosen_ok (list_all (is_constant_item t) (postfix (source_tree e))) first.0 s StmtFault.SizeNamesLabel first.2 in
+    (as_stmt_ok (settled t (source_tree e)) s (first.1 ∙ ap (λ x. Ok x) chosen.1), chosen.0)
 
 -- An ORG makes no piece.
 pub origin_nothing : (t : Table) (e : line.ExpressionItems) (m : Made) → made.origin t e ≡ Ok m → Nothing ≡ m
@@ -152,17 +152,17 @@ no_nothing : (b : Bool) (x : Piece) → (if b then Some_piece x else made.Unknow
 no_nothing true x is = cc
 no_nothing false x is = cc
 
-pub laid_something : {A : Type 0} (read : A → Result (List Cell) StmtFault) (xs : List A) → made.all_laid (each read xs) ≡ Ok Nothing → ⊥
+pub laid_something : {A : Type 0} (read : A → Result (List Cell) StmtFault) (xs : List A) → made.items_made (each read xs) ≡ Ok Nothing → ⊥
 laid_something read xs is =
     let all = bind_ok (each read xs) _ Nothing is in
-    let whole : laid_cells (flat all.0) ≡ Nothing = cc in
-    no_nothing (all_told (flat all.0)) (made.Bytes (bytes (flat all.0)) (holes 0 (flat all.0))) whole
+    let whole : cells_made (flat all.0) ≡ Nothing = cc in
+    no_nothing (all_filled (flat all.0)) (made.Bytes (bytes (flat all.0)) (holes 0 (flat all.0))) whole
 
 pub code_something : (t : Table) (instr : Instr) (numbers : List (Field × line.ExpressionItems)) → made.code t instr numbers ≡ Ok Nothing → ⊥
 code_something t instr numbers is =
     let all = bind_ok (fillings t numbers) (λ read. Ok (coded instr read)) Nothing is in
     let whole : coded instr all.0 ≡ Nothing = cc in
-    no_nothing (list_all (λ n. is_told n.1) all.0) (made.Bytes (canonical (blank_of all.0 instr)) (flat_map (code_hole (length (canonical instr))) all.0)) whole
+    no_nothing (list_all (λ n. is_filled n.1) all.0) (made.Bytes (canonical (blank_of all.0 instr)) (flat_map (code_hole (length (canonical instr))) all.0)) whole
 
 pub jump_something : (t : Table) (condition : Option ShortCond) (target : List ℕ) (o : Option ℕ) → made.jump_by o t condition target ≡ Ok Nothing → ⊥
 jump_something t condition target (Some r) is = cc

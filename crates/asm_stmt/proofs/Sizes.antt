@@ -70,7 +70,7 @@ word_sized t e cs is =
     ap (λ xs. length (bytes xs)) (sym same)
 
 data_size : {A : Type 0} (size : A → ℕ) (read : A → Result (List Cell) StmtFault) → ((x : A) (cs : List Cell) → read x ≡ Ok cs → length (bytes cs) ≡ size x)
-    → (xs : List A) (p : Piece) → made.all_laid (each read xs) ≡ Ok (Some_piece p) → Statement.Sized (sum_by size xs) ≡ piece_sized p
+    → (xs : List A) (p : Piece) → made.items_made (each read xs) ≡ Ok (Some_piece p) → Statement.Sized (sum_by size xs) ≡ piece_sized p
 data_size size read one xs p is =
     let d = data_made read xs p is in
     ap (λ n. Statement.Sized n) (sym (sum_of size read one xs d.cells d.is)) ∙ ap piece_sized d.piece

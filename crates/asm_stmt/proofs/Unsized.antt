@@ -9,7 +9,7 @@ use Rattle.asm_parse.specs.Source.{AreExpressionItems}
 use Rattle.asm_expr.specs.declared.answer.Settled.{Settled}
 use Rattle.asm_expr.specs.Below.{Atom}
 use Rattle.asm_expr.specs.Names.{Table}
-use Rattle.asm_expr.specs.Below.{source}
+use Rattle.asm_expr.specs.Below.{source_tree}
 use Rattle.asm_expr.specs.Settling.{is_constant_item, is_known, settled}
 use Rattle.asm_expr.proofs.Steps.{source_whole}
 use Rattle.common.specs.Results.{◌>>=◌}
@@ -32,7 +32,7 @@ no_number true (Ok (Settled.Unknown what)) none = refl
 no_number false (Ok (Settled.Unknown what)) none = refl
 no_number constant (Ok (Settled.Known items)) none = absurd (none items refl)
 
-pub unsized : (t : Table) (e : ExpressionItems) → ((items : List (Item Atom)) → list_all (is_known t) (postfix (source e)) ≡ false → settled t (source e) ≡ Ok (Settled.Known items) → ⊥)
+pub unsized : (t : Table) (e : ExpressionItems) → ((items : List (Item Atom)) → list_all (is_known t) (postfix (source_tree e)) ≡ false → settled t (source_tree e) ≡ Ok (Settled.Known items) → ⊥)
     → AreExpressionItems e → (AllPass (is_known t) e → ⊥) → size_in (space_size t e) ≡ None
 unsized t e lacking is lacks =
-    no_number (list_all (is_constant_item t) (postfix (source e))) (settled t (source e)) (λ items. lacking items (ap (list_all (is_known t)) (source_whole e is) ∙ not_all t e lacks))
+    no_number (list_all (is_constant_item t) (postfix (source_tree e))) (settled t (source_tree e)) (λ items. lacking items (ap (list_all (is_known t)) (source_whole e is) ∙ not_all t e lacks))

@@ -33,9 +33,10 @@ abbrev pub holes : ℕ → List Cell → List Hole
 holes at [] = []
 holes at (c ∷ cs) = hole at c.width c.filling ++ holes (at + width_size c.width) cs
 
-abbrev pub is_told : Filling → Bool
-is_told Filling.Unknown = false
-is_told _ = true
+-- what fills the field is known: a number, or an expression that the linker computes
+abbrev pub is_filled : Filling → Bool
+is_filled Filling.Unknown = false
+is_filled _ = true
 
-abbrev pub all_told : List Cell → Bool
-all_told cells = list_all (λ c. is_told c.filling) cells
+abbrev pub all_filled : List Cell → Bool
+all_filled cells = list_all (λ c. is_filled c.filling) cells

@@ -4,7 +4,7 @@ use Rattle.std.specs.Prelude.{◌≡◌, ℕ, ◌+◌, ◌%◌, Bool, true, fals
 use Rattle.common.specs.Results.{◌>>=◌}
 use Rattle.asm_parse.specs.declared.fault.ExprFault.{ExprFault}
 use Rattle.asm_parse.specs.declared.item.Item.{Item}
-use Rattle.asm_expr.specs.Below.{Atom, source}
+use Rattle.asm_expr.specs.Below.{Atom, source_tree}
 use Rattle.asm_expr.specs.declared.answer.Settled.{Settled}
 use Rattle.asm_expr.specs.declared.unknown.Unknown.{Unknown}
 use Rattle.asm_expr.specs.declared.here.Offset.{Offset}
@@ -80,11 +80,11 @@ as_stmt (Err why) = Err (of_expression why)
 
 -- the value of an expression once its names are replaced
 abbrev pub settled_in : Table → ExpressionItems → Result Settled StmtFault
-settled_in t e = as_stmt (settled t (source e))
+settled_in t e = as_stmt (settled t (source_tree e))
 
 -- What fills a field of an instruction, or a byte or word of data.
 abbrev pub field_filling : Table → Field → ExpressionItems → Result Filling StmtFault
-field_filling t Field.Distance e = distance_or (fault t (source e)) (offset t (source e))
+field_filling t Field.Distance e = distance_or (fault t (source_tree e)) (offset t (source_tree e))
 field_filling t Field.Byte e = settled_in t e >>= byte
 field_filling t Field.Word e = settled_in t e >>= λ s. Ok (word_filling s)
 field_filling t field e = settled_in t e >>= fixed field

@@ -1,4 +1,4 @@
--- What a statement makes once its names are replaced, or the first error of its values.
+-- What a statement gives its object file once its names are replaced, or the first error of its values.
 -- In words: docs/LANGUAGE.md, section 'Directives'.
 use Rattle.std.specs.Prelude.{◌≢◌, ℕ, zero, suc, ◌-◌, ◌%◌, ◌==◌, ◌&&◌, Bool, false, List, [], ◌∷◌, Option, Some, None, Result, Ok, Err, if◌then◌else◌, All, length, map}
 use Rattle.std.specs.List.{AllPass, flat_map, list_all}
@@ -8,7 +8,7 @@ use Rattle.common.specs.Results.{◌>>=◌}
 use Rattle.asm_parse.specs.declared.item.Item.{Item}
 use Rattle.asm_parse.specs.Expression.{postfix}
 use Rattle.asm_parse.specs.Source.{Name}
-use Rattle.asm_expr.specs.Below.{source}
+use Rattle.asm_expr.specs.Below.{source_tree}
 use Rattle.asm_expr.specs.declared.answer.Settled.{Settled}
 use Rattle.asm_expr.specs.declared.meaning.Meaning.{Meaning}
 use Rattle.asm_expr.specs.Names.{Table, found}
@@ -30,18 +30,19 @@ use Rattle.zmo_object.specs.declared.module.hole.Hole.{Hole}
 use Rattle.asm_stmt.specs.declared.piece.Made as answer
 use Rattle.asm_stmt.specs.declared.piece.Piece as piece
 use Rattle.zmo_object.specs.declared.module.hole.Width.{Width}
-use Rattle.asm_stmt.specs.Cells.{all_told, bytes, hole, holes, is_told, number_or_0}
+use Rattle.asm_stmt.specs.Cells.{all_filled, bytes, hole, holes, is_filled, number_or_0}
 use Rattle.zmo_object.specs.Holes.{width_size}
 use Rattle.asm_stmt.specs.Fields.{field_filling, fixed, is_number_unknown, number, settled_in}
 
--- what a statement is in a program: bytes with fix-ups, a relaxable jump to a ref, a jump to a ref that is always short, or space
+-- What a statement gives an object file: bytes with fix-ups; a jump to a ref that may be short or long; a jump to a ref that is always
+-- short; or space, by its size and the byte that fills it.
 pub data Piece : Type 0 where
   Bytes : List ℕ → List Hole → Piece
   Jump : Option ShortCond → ℕ → Piece
   Short : Branch → ℕ → Piece
   Space : ℕ → ℕ → Piece
 
--- what a statement makes: nothing, a piece, or something whose value is not known because another line has an error
+-- What a line makes: nothing; such a piece; or a piece that is not known, because it depends on another line that has an error.
 pub data Made : Type 0 where
   Nothing : Made
   Some_piece : Piece → Made
@@ -66,17 +67,19 @@ value_cells t (line.Byte e) = cells t Width.Byte Field.Byte e
 abbrev pub word_cells : Table → ExpressionItems → Result (List Cell) StmtFault
 word_cells t e = cells t Width.Word Field.Word e
 
-abbrev pub laid_cells : List Cell → Made
-laid_cells cells = if all_told cells then Some_piece (Bytes (bytes cells) (holes 0 cells)) else Unknown
+-- the bytes and fix-ups of these fields, if what fills each is known
+abbrev pub cells_made : List Cell → Made
+cells_made cells = if all_filled cells then Some_piece (Bytes (bytes cells) (holes 0 cells)) else Unknown
 
-abbrev pub all_laid : Result (List (List Cell)) StmtFault → Result Made StmtFault
-all_laid read = read >>= λ cells. Ok (laid_cells (flat_map (λ some. some) cells))
+-- the bytes and fix-ups of the fields of all items, or the first error of an item
+abbrev pub items_made : Result (List (List Cell)) StmtFault → Result Made StmtFault
+items_made read = read >>= λ cells. Ok (cells_made (flat_map (λ some. some) cells))
 
 abbrev pub bytes_made : Table → List Value → Result Made StmtFault
-bytes_made t values = all_laid (each (value_cells t) values)
+bytes_made t values = items_made (each (value_cells t) values)
 
 abbrev pub words_made : Table → List ExpressionItems → Result Made StmtFault
-words_made t fields = all_laid (each (word_cells t) fields)
+words_made t fields = items_made (each (word_cells t) fields)
 
 -- Instructions.
 
@@ -101,7 +104,7 @@ code_hole size n = hole (size - width_size (field_width n.0)) (field_width n.0) 
 
 abbrev pub coded : Instr → Fillings → Made
 coded instr numbers =
-    if list_all (λ n. is_told n.1) numbers
+    if list_all (λ n. is_filled n.1) numbers
     then Some_piece (Bytes (canonical (with_numbers (map (λ n. (n.0, number_or_0 n.1)) numbers) instr)) (flat_map (code_hole (length (canonical instr))) numbers))
     else Unknown
 
@@ -146,7 +149,7 @@ space_fill t (Some e) = settled_in t e >>= fixed Field.Byte
 
 -- the size of a DS, which may only contain constants
 abbrev pub space_size : Table → ExpressionItems → Result Settled StmtFault
-space_size t e = settled_in t e >>= λ s. if list_all (is_constant_item t) (postfix (source e)) then Ok s else Err StmtFault.SizeNamesLabel
+space_size t e = settled_in t e >>= λ s. if list_all (is_constant_item t) (postfix (source_tree e)) then Ok s else Err StmtFault.SizeNamesLabel
 
 -- DS 0 makes nothing.
 abbrev pub spaced_by : ℕ → Filling → Made

@@ -4,7 +4,7 @@ ghost use Rattle.std.specs.Prelude.{◌≡◌, ◌&&◌, ◌++◌, All, List, On
 ghost use Rattle.asm_spell.specs.Faults.{Gives};
 ghost use Rattle.asm_spell.specs.Line.{value_of};
 ghost use Rattle.asm_stmt.specs.declared.cell.Cell.{Cell};
-ghost use Rattle.asm_stmt.specs.Cells.{hole, is_told, number_or_0, written};
+ghost use Rattle.asm_stmt.specs.Cells.{hole, is_filled, number_or_0, written};
 ghost use Rattle.asm_stmt.specs.Made.{IsDefined, ValueDefined, bytes_made, cells, made_of, value_cells, words_made};
 ghost use Rattle.asm_stmt.specs.Private.Laying.{Lays, Puts};
 
@@ -27,17 +27,17 @@ pub(crate) fn number_or_0(filling: &Filling) -> u16
     }
 }
 
-pub(crate) fn is_told(filling: &Filling) -> bool
-    ensures { result ≡ is_told filling.now }
+pub(crate) fn is_filled(filling: &Filling) -> bool
+    ensures { result ≡ is_filled filling.now }
 {
     !matches!(filling, Filling::Unknown)
 }
 
 /// Whether this value is known, and all values before it.
 pub(crate) fn still_told(before: bool, filling: &Filling) -> bool
-    ensures { result ≡ (before && is_told filling.now) }
+    ensures { result ≡ (before && is_filled filling.now) }
 {
-    before && is_told(filling)
+    before && is_filled(filling)
 }
 
 /// Appends a number as one or two bytes.
@@ -91,7 +91,7 @@ struct Laid {
 impl Laid {
     ghost use Rattle.std.specs.Prelude.{◌≡◌, ◌++◌, ◌∷◌, [], List, OnOk, map};
     ghost use Rattle.asm_stmt.specs.declared.cell.Cell.{Cell};
-    ghost use Rattle.asm_stmt.specs.Made.{laid_cells, made_of, text_cell};
+    ghost use Rattle.asm_stmt.specs.Made.{cells_made, made_of, text_cell};
     ghost use Rattle.asm_stmt.specs.Private.Laying.{Lays};
 
     fn new(alloc: Global) -> Laid
@@ -126,7 +126,7 @@ impl Laid {
 
     /// Answers what the fields make.
     fn made(self) -> Made
-        ensures { (cells : List Cell) → Lays cells self → made_of result ≡ laid_cells cells }
+        ensures { (cells : List Cell) → Lays cells self → made_of result ≡ cells_made cells }
     {
         if self.told {
             Made::Piece(Piece::Bytes {

@@ -2,7 +2,7 @@
 
 ghost use Rattle.std.specs.Prelude.{◌≡◌, ◌∷◌, [], IfOk, true};
 ghost use Rattle.std.specs.List.{AllPass};
-ghost use Rattle.asm_expr.specs.Below.{source, Atom};
+ghost use Rattle.asm_expr.specs.Below.{source_tree, Atom};
 ghost use Rattle.asm_expr.specs.Settling.{is_known};
 ghost use Rattle.asm_spell.specs.Faults.{Gives};
 ghost use Rattle.asm_parse.specs.declared.item.Item.{Item};

@@ -27,8 +27,8 @@ use Rattle.asm_spell.specs.Line as line
 use Rattle.asm_spell.specs.Line.{Body, ExpressionItems, Line, Value}
 use Rattle.asm_spell.specs.Spelling.{spelled}
 use Rattle.asm_stmt.specs.Made as made
-use Rattle.asm_stmt.specs.Made.{Made, Nothing, Piece, Some_piece, Unknown, all_laid, bytes_made, code, code_hole, coded, fillings, jump_by, laid_cells, origin, ref_of, short_by, space_made, space_of_size, spaced_by, words_made}
-use Rattle.asm_stmt.specs.Cells.{all_told, bytes, holes, is_told, number_or_0}
+use Rattle.asm_stmt.specs.Made.{Made, Nothing, Piece, Some_piece, Unknown, items_made, bytes_made, code, code_hole, coded, fillings, jump_by, cells_made, origin, ref_of, short_by, space_made, space_of_size, spaced_by, words_made}
+use Rattle.asm_stmt.specs.Cells.{all_filled, bytes, holes, is_filled, number_or_0}
 use Rattle.asm_stmt.specs.Fields.{settled_in}
 use Rattle.asm_stmt.specs.declared.cell.Cell.{Cell}
 use Rattle.asm_stmt.specs.declared.cell.Filling.{Filling}
@@ -42,7 +42,8 @@ use Rattle.asm_module.specs.Program.Spelled.{IsSpelled}
 use Rattle.asm_module.specs.Program.Statement as statement
 use Rattle.asm_module.specs.Program.Statement.{Statement, jump_statement, short_statement, spaced, stated}
 use Rattle.asm_text.specs.Lines.{Numbered}
-use Rattle.asm_module.specs.Assembled.{Assembled, Assembles, IsStated, TellsLines, answer, assembled}
+use Rattle.asm_module.specs.Assembled.{Assembled, Assembles, TellsLines, answer, assembled}
+use Rattle.asm_module.specs.Program.Described.{IsProgramOfSource}
 use Rattle.asm_module.specs.declared.fault.AsmFault.{AsmFault}
 use Rattle.asm_module.specs.declared.line_fault.LineFault.{LineFault}
 use Rattle.asm_module.specs.Reads.Read.{read_line, scanned_by, spelled_by, taken, with_line}
@@ -96,11 +97,11 @@ bytes_other grow false bytes holes = refl
 
 code_other : (grow : Bool) (t : Table) (instr : Instr) (numbers : List (Field × ExpressionItems)) → is_other (of_made grow (code t instr numbers)) ≡ true
 code_other grow t instr numbers = passes is_other refl grow (fillings t numbers) (λ read. Ok (coded instr read))
-    (λ read. bytes_other grow (list_all (λ n. is_told n.1) read) (canonical (with_numbers (map (λ n. (n.0, number_or_0 n.1)) read) instr)) (flat_map (code_hole (length (canonical instr))) read))
+    (λ read. bytes_other grow (list_all (λ n. is_filled n.1) read) (canonical (with_numbers (map (λ n. (n.0, number_or_0 n.1)) read) instr)) (flat_map (code_hole (length (canonical instr))) read))
 
-laid_other : (grow : Bool) (read : Result (List (List Cell)) StmtFault) → is_other (of_made grow (all_laid read)) ≡ true
-laid_other grow read = passes is_other refl grow read (λ cells. Ok (laid_cells (flat_map (λ some. some) cells)))
-    (λ cells. let all : List Cell = flat_map (λ some. some) cells in bytes_other grow (all_told all) (bytes all) (holes 0 all))
+laid_other : (grow : Bool) (read : Result (List (List Cell)) StmtFault) → is_other (of_made grow (items_made read)) ≡ true
+laid_other grow read = passes is_other refl grow read (λ cells. Ok (cells_made (flat_map (λ some. some) cells)))
+    (λ cells. let all : List Cell = flat_map (λ some. some) cells in bytes_other grow (all_filled all) (bytes all) (holes 0 all))
 
 space_only : (grow : Bool) (t : Table) (size : ExpressionItems) (fill : Option ExpressionItems) → is_space_if (of_made grow (space_made t size fill)) ≡ true
 space_only grow t size fill = passes is_space_if refl grow (made.space_size t size) _ (λ s. passes is_space_if refl grow (made.space_fill t fill) _ (λ f. sized (made.number_in s) f))
@@ -272,7 +273,7 @@ abbrev pub OneExpansion : Type 0
 OneExpansion = (text : List ℕ) (lines more : List Numbered) (end other : End) → IsExpansion text lines end → IsExpansion text more other → (lines ≡ more) × (end ≡ other)
 
 abbrev pub OneProgram : Type 0
-OneProgram = (text : List ℕ) (grow : Bool) (a b : List Statement) → IsStated text grow a → IsStated text grow b → a ≡ b
+OneProgram = (text : List ℕ) (grow : Bool) (a b : List Statement) → IsProgramOfSource text grow a → IsProgramOfSource text grow b → a ≡ b
 
 module _ (pieces : Pieces) (one : OneExpansion) (same : OneProgram) where
   third_none : {A : Type 0} (a b c : Option A) → first (a ∷ b ∷ c ∷ []) ≡ None → (a ≡ None) × (c ≡ None)
@@ -289,24 +290,24 @@ module _ (pieces : Pieces) (one : OneExpansion) (same : OneProgram) where
   same_lines text lines from (end, done, is) (other, done_other, is_other) = (one text lines from end other is is_other).0
 
   from_lines : (name text : List ℕ) (grow : Bool) (a : Assembled) (p : List Statement) (count : ℕ) (from : List Numbered) (circle : ℕ → Bool) → IsExpanded text (Ok from) → TellsLines circle (Ok from)
-      → assembled name grow count circle (Ok from) ≡ Ok a → IsStated text grow p → AreTold a.holds.statements p (line_kinds (taken from))
+      → assembled name grow count circle (Ok from) ≡ Ok a → IsProgramOfSource text grow p → AreTold a.holds.statements p (line_kinds (taken from))
   from_lines name text grow a p count from circle is tells e described =
       let whole = answered (source_fault grow from circle) _ a e in
       let parts = third_none (first_pass from) (first_equ_line_fault (taken from) circle (layout grow (taken from) circle)) (state_fault (taken from) circle (layout grow (taken from) circle)) whole.0 in
       let none : first_statement_fault (names (taken from)) (source_table (taken from) circle (layout grow (taken from) circle)) (layout grow (taken from) circle) (taken from) ≡ None = unmapped _ _ parts.1 in
       let own : List Statement = program_of_lines grow (source_table (taken from) circle (layout grow (taken from) circle)) (layout grow (taken from) circle) (taken from) in
-      let is_own : IsStated text grow own = (from, is, (circle, tells parts.0, refl)) in
+      let is_own : IsProgramOfSource text grow own = (from, is, (circle, tells parts.0, refl)) in
       let told_own = lines_fit pieces grow (names (taken from)) (source_table (taken from) circle (layout grow (taken from) circle)) (layout grow (taken from) circle) 0 (taken from) (taken_words from) none in
       let statements = ap (λ (w : Assembled). w.holds.statements) whole.1 in
       let ms : List ModuleStatement = map (λ n. n.1) (numbered_statements grow (source_table (taken from) circle (layout grow (taken from) circle)) (layout grow (taken from) circle) (taken from)) in
       subst (λ ms. AreTold ms p (line_kinds (taken from))) statements (subst (λ q. AreTold ms q (line_kinds (taken from))) (same text grow own p is_own described) told_own)
 
-  pub source_told : (name text : List ℕ) (grow : Bool) (a : Assembled) (p : List Statement) (lines : List Numbered) → Assembles name text grow (Ok a) → IsStated text grow p → IsExpanded text (Ok lines)
+  pub source_told : (name text : List ℕ) (grow : Bool) (a : Assembled) (p : List Statement) (lines : List Numbered) → Assembles name text grow (Ok a) → IsProgramOfSource text grow p → IsExpanded text (Ok lines)
       → AreTold a.holds.statements p (line_kinds (taken lines))
   source_told name text grow a p lines (Err (number, why), is, circle, tells, e) described expanded = absurd cc
   source_told name text grow a p lines (Ok from, is, circle, tells, e) described expanded =
       rw (same_lines text lines from expanded is) (from_lines name text grow a p _ from circle is tells e described)
 
-  pub source_few : (name text : List ℕ) (grow : Bool) (a : Assembled) (p : List Statement) → Assembles name text grow (Ok a) → IsStated text grow p → length a.holds.statements ≤ length p
+  pub source_few : (name text : List ℕ) (grow : Bool) (a : Assembled) (p : List Statement) → Assembles name text grow (Ok a) → IsProgramOfSource text grow p → length a.holds.statements ≤ length p
   source_few name text grow a p (Err (number, why), is, circle, tells, e) described = absurd cc
   source_few name text grow a p (Ok from, is, circle, tells, e) described = (from_lines name text grow a p _ from circle is tells e described).few

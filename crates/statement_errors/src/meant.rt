@@ -2,9 +2,11 @@
 
 use crate::near::differ_little;
 use asm_line::{BlockWord, Head, Kind, Token, form_of, is_word};
+use asm_spell::DIRECTIVES;
 use error_lines::{Case, do_build, is_expression};
 use message_texts::joined;
 use std::alloc::{AllocError, Global};
+use z80_form::MNEMONICS;
 
 /// The most bytes of a word that is looked at. No word of the language is longer.
 const LONGEST: usize = 8;
@@ -12,16 +14,9 @@ const LONGEST: usize = 8;
 /// The fewest.
 const SHORTEST: usize = 2;
 
-/// The words of the language. Each is tried by the parser, so this list says nothing about what they take.
-const WORDS: [&str; 89] = [
-    "LD", "PUSH", "POP", "EX", "EXX", "LDI", "LDIR", "LDD", "LDDR", "CPI", "CPIR", "CPD", "CPDR",
-    "INI", "INIR", "IND", "INDR", "OUTI", "OTIR", "OUTD", "OTDR", "ADD", "ADC", "SUB", "SBC",
-    "AND", "XOR", "OR", "CP", "INC", "DEC", "DAA", "CPL", "NEG", "CCF", "SCF", "NOP", "HALT", "DI",
-    "EI", "IM", "RLCA", "RLA", "RRCA", "RRA", "RLC", "RL", "RRC", "RR", "SLA", "SRA", "SRL", "RLD",
-    "RRD", "BIT", "SET", "RES", "JP", "JR", "DJNZ", "CALL", "RET", "RETI", "RETN", "RST", "IN",
-    "OUT", "DB", "DEFB", "DEFM", "DW", "DEFW", "DS", "DEFS", "PUBLIC", "GLOBAL", "EXTRN",
-    "EXTERNAL", "ORG", "END", ".Z80", "EQU", "MACRO", "LOCAL", "REPT", "IF", "ELSE", "ENDIF",
-    "ENDM",
+/// The words of the language that are neither mnemonics nor directives.
+const OTHER_WORDS: [&str; 8] = [
+    "EQU", "MACRO", "LOCAL", "REPT", "IF", "ELSE", "ENDIF", "ENDM",
 ];
 
 /// Words of other assemblers, and the words of the language that do the same. Other words of the language are nearer to them.
@@ -113,10 +108,15 @@ fn fits(case: &Case<'_>, word: &[u8]) -> Result<bool, AllocError> {
     }
 }
 
-/// The words of the language that differ little from one that is written.
+/// The words of the language that differ little from one that is written. The parser tries each of them afterwards, since these lists do
+/// not say what a word takes.
 fn near_words(alloc: Global, written: &[u8]) -> Result<Vec<&'static str>, AllocError> {
     let mut near = Vec::new(alloc);
-    for word in &WORDS {
+    for word in MNEMONICS
+        .iter()
+        .chain(DIRECTIVES.iter())
+        .chain(OTHER_WORDS.iter())
+    {
         let bytes = word.as_bytes();
         if bytes != written && differ_little(bytes, written) {
             near.push(*word)?;

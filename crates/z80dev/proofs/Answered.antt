@@ -8,7 +8,7 @@ use Rattle.asm_line.specs.Lines.{Scans}
 use Rattle.asm_line.specs.Scanned.{scanned}
 use Rattle.asm_line.specs.Tokens.{Lexeme}
 use Rattle.asm_parse.specs.declared.fault.ExprFault.{ExprFault}
-use Rattle.asm_expr.specs.Below.{source}
+use Rattle.asm_expr.specs.Below.{source_tree}
 use Rattle.asm_expr.specs.Equating.{equated, meaning_of}
 use Rattle.asm_expr.specs.Names.{Table}
 use Rattle.asm_expr.specs.Settling.{settled}
@@ -28,7 +28,7 @@ use Rattle.asm_names.specs.Names.{Names, names}
 use Rattle.asm_names.specs.declared.equ_fault.EquFault.{EquFault}
 use Rattle.asm_names.specs.Circles.{TellsCircles, equ_items, line_named, lines_named}
 use Rattle.asm_names.specs.Layout.{Layout}
-use Rattle.asm_names.specs.Meanings.{Entries, circular, equ_fault, equ_line_fault, name_meanings, table_at, undefined, value_by, valueless}
+use Rattle.asm_names.specs.Meanings.{Entries, circular, equ_fault, equ_line_fault, name_meanings, table_at, undefined, expression_fault_of, expression_fault}
 use Rattle.asm_module.specs.declared.line_fault.LineFault.{LineFault}
 use Rattle.asm_module.specs.Reads.Read.{read_line, scanned_by, spelled_by, taken, unread, unread_or}
 use Rattle.asm_module.specs.declared.statements.fault.StateFault.{StateFault}
@@ -117,7 +117,7 @@ abbrev IsOfEqu : EquFault → Type 0
 IsOfEqu (EquFault.Expr why) = IsOfStatement (StmtFault.Expr why)
 IsOfEqu why = Unit {0}
 
-value_by_but : {A : Type 0} (r : Result A ExprFault) → r ≢ Err ExprFault.NoMemory → NoneBut IsOfEqu (value_by r)
+value_by_but : {A : Type 0} (r : Result A ExprFault) → r ≢ Err ExprFault.NoMemory → NoneBut IsOfEqu (expression_fault_of r)
 value_by_but (Ok what) none = tt
 value_by_but (Err ExprFault.Syntax) none = tt
 value_by_but (Err ExprFault.DivideByZero) none = tt
@@ -134,7 +134,7 @@ equ_but : (known : Names) (circle : ℕ → Bool) (t : Table) (at : ℕ) (e : Ex
 equ_but known circle t at e =
     first_but IsOfEqu (undefined known e) _ (if_so_but IsOfEqu EquFault.Undefined _ tt)
     (first_but IsOfEqu (circular circle at) _ (if_so_but IsOfEqu EquFault.EquCircle _ tt)
-    (first_but IsOfEqu (valueless t e) [] (value_by_but (equated t (source e)) (then_none (settled t (source e)) (meaning_of t (source e)) (settled_caused t (source e)))) tt))
+    (first_but IsOfEqu (expression_fault t e) [] (value_by_but (equated t (source_tree e)) (then_none (settled t (source_tree e)) (meaning_of t (source_tree e)) (settled_caused t (source_tree e)))) tt))
 
 equ_line_but : (known : Names) (circle : ℕ → Bool) (laid : Layout) (entries : Entries) (at : ℕ) (l : Line) → NoneBut IsOfEqu (equ_line_fault known circle laid entries at l)
 equ_line_but known circle laid entries at (line.Equ name e) = equ_but known circle (table_at laid entries at) at e

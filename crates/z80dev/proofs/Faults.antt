@@ -19,7 +19,7 @@ use Rattle.asm_parse.specs.declared.values.worth.Worth.{Worth}
 use Rattle.asm_expr.specs.declared.answer.Settled.{Settled}
 use Rattle.asm_expr.specs.Names.{Table}
 use Rattle.asm_expr.specs.Origins.{is_number_item}
-use Rattle.asm_expr.specs.Below.{source}
+use Rattle.asm_expr.specs.Below.{source_tree}
 use Rattle.asm_expr.specs.Settling.{division_fault, divisions_fault, divisor_fault, fault, fault_behind, first_of_two, replaced, settled, expression_size, operand_size, stands_for, too_large, unless_fault}
 use Rattle.asm_expr.specs.Settling as settling
 use Rattle.asm_macro.specs.declared.fault.MacroFault.{MacroFault}
@@ -131,8 +131,8 @@ number_caused (Err why) none = expr_caused why (λ w. none (cc w))
 
 items_caused : (t : Table) (r : Result (List (Item Operand)) ExprFault) → Caused r → IsCaused (worth_of_items t r)
 items_caused t (Ok items) none =
-    elim (list_all (is_number_item t) items) as (λ b. IsCaused (if b then settled_number (settled t (source items)) else Err MacroFault.ConditionNamesLabel)) [
-      | true ↦ number_caused (settled t (source items)) (settled_caused t (source items))
+    elim (list_all (is_number_item t) items) as (λ b. IsCaused (if b then settled_number (settled t (source_tree items)) else Err MacroFault.ConditionNamesLabel)) [
+      | true ↦ number_caused (settled t (source_tree items)) (settled_caused t (source_tree items))
       | false ↦ tt
     ]
 items_caused t (Err why) none = expr_caused why (λ w. none (cc w))

@@ -4,7 +4,8 @@ use Rattle.asm_text.specs.Lines.{Numbered}
 use Rattle.asm_names.specs.Faults.{first}
 use Rattle.asm_module.specs.Reads.Read.{taken}
 use Rattle.asm_module.specs.declared.fault.AsmFault.{AsmFault}
-use Rattle.asm_module.specs.Assembled.{Assembled, Assembles, HasCause, IsStated, answer}
+use Rattle.asm_module.specs.Assembled.{Assembled, Assembles, HasCause, answer}
+use Rattle.asm_module.specs.Program.Described.{IsProgramOfSource}
 use Rattle.asm_module.specs.Below.{layout}
 use Rattle.asm_module.specs.Source.{first_equ_line_fault, first_pass, state_fault}
 use Rattle.asm_module.specs.Program.Statement.{Statement}
@@ -13,7 +14,7 @@ use Rattle.zlink.specs.Sources.{Assembly, AreAssembled, IsFirstFaulty}
 
 -- The source is a program.
 abbrev States : List ℕ → Bool → Type 0
-States text grow = (p : List Statement) × IsStated text grow p
+States text grow = (p : List Statement) × IsProgramOfSource text grow p
 
 by_pass : (text : List ℕ) (grow : Bool) (lines : List Numbered) (circle : ℕ → Bool) (whole a : Assembled) (pass equ state : Option AsmFault) → (pass ≡ None → States text grow) → answer (first (pass ∷ equ ∷ state ∷ [])) whole ≡ Ok a → States text grow
 by_pass text grow lines circle whole a None equ state stated comes = stated refl

@@ -36,7 +36,7 @@ use Rattle.asm_spell.specs.Spelling.{has_reserved, instruction, instruction_by, 
 use Rattle.asm_expr.specs.declared.answer.Settled.{Settled}
 use Rattle.asm_expr.specs.declared.here.Offset.{Offset}
 use Rattle.asm_expr.specs.declared.unknown.Unknown.{Unknown}
-use Rattle.asm_expr.specs.Below.{source}
+use Rattle.asm_expr.specs.Below.{source_tree}
 use Rattle.asm_expr.specs.Names.{Table, found}
 use Rattle.asm_expr.specs.Offsets.{offset}
 use Rattle.asm_expr.specs.Settling.{fault, is_constant_item, settled}
@@ -240,7 +240,7 @@ as_caused (Ok x) none = tt
 as_caused (Err why) none = expression_caused why (λ w. none (cc w))
 
 settled_in_caused : (t : Table) (e : ExpressionItems) → Caused (settled_in t e)
-settled_in_caused t e = as_caused (settled t (source e)) (settled_caused t (source e))
+settled_in_caused t e = as_caused (settled t (source_tree e)) (settled_caused t (source_tree e))
 
 byte_caused : (s : Settled) → Caused (byte s)
 byte_caused (Settled.Known items) = elim (number items) as (λ n. Caused (byte_by n items)) [
@@ -279,7 +279,7 @@ fixed_field_caused : (t : Table) (field : Field) (e : ExpressionItems) → Cause
 fixed_field_caused t field e = then_caused (settled_in t e) (fixed field) (settled_in_caused t e) (fixed_caused field)
 
 filling_caused : (t : Table) (field : Field) (e : ExpressionItems) → Caused (field_filling t field e)
-filling_caused t Field.Distance e = distance_or_caused (fault t (source e)) (offset t (source e)) (fault_caused t (source e))
+filling_caused t Field.Distance e = distance_or_caused (fault t (source_tree e)) (offset t (source_tree e)) (fault_caused t (source_tree e))
 filling_caused t Field.Byte e = then_caused (settled_in t e) byte (settled_in_caused t e) byte_caused
 filling_caused t Field.Word e = then_caused (settled_in t e) _ (settled_in_caused t e) (λ s. tt)
 filling_caused t Field.Displacement e = fixed_field_caused t Field.Displacement e
@@ -313,7 +313,7 @@ fill_caused t None = tt
 fill_caused t (Some e) = fixed_field_caused t Field.Byte e
 
 size_caused : (t : Table) (e : ExpressionItems) → Caused (space_size t e)
-size_caused t e = then_caused (settled_in t e) _ (settled_in_caused t e) (λ s. if_caused (list_all (is_constant_item t) (postfix (source e))) _ _ tt tt)
+size_caused t e = then_caused (settled_in t e) _ (settled_in_caused t e) (λ s. if_caused (list_all (is_constant_item t) (postfix (source_tree e))) _ _ tt tt)
 
 pub made_caused : (t : Table) (b : Body) → Caused (made t b)
 made_caused t (line.Code instr numbers) = code_caused t instr numbers

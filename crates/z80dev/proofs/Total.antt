@@ -3,15 +3,14 @@ use Rattle.std.proofs.Common.{◌≡◌, ◌<◌, ◌≤◌, ◌+◌, if◌then�
 use Rattle.std.proofs.lemmas.Bool.{leb-false, leb-true}
 use Rattle.common.specs.declared.limits.TheConstants.{LONGEST_TEXT}
 use Rattle.asm_macro.specs.declared.expansion.TheConstants.{MOST_LINES}
-use Rattle.asm_text.specs.Lines.{Numbered, form_of}
-use Rattle.asm_text.specs.Roles.{is_alone}
-use Rattle.asm_text.specs.Sections.Blocks.{BlockBody, Section}
-use Rattle.asm_text.specs.Sections.Onward.{Next, Rest, BehindFirst, BehindSecond, Turns, renumbered}
+use Rattle.asm_text.specs.Lines.{Numbered}
+use Rattle.asm_text.specs.Sections.Blocks.{BlockBody}
+use Rattle.asm_text.specs.Sections.Onward.{Next, Rest, BehindFirst, BehindSecond, Turns, Onward, On, renumbered, stray, stray_in, stray_or}
 use Rattle.asm_macro.specs.declared.fault.MacroFault.{MacroFault}
 use Rattle.asm_macro.specs.State.{State, with_line_counted, start, room}
 use Rattle.asm_macro.specs.Texts.{numbered, source_lines}
 use Rattle.asm_macro.specs.Leads.{IsOfLine, Leads, most, room_behind}
-use Rattle.asm_macro.specs.Parts.{ExpansionPart, Stop, Last, Go, Within, closing, line_part, passed, resumed, repetition_part}
+use Rattle.asm_macro.specs.Parts.{ExpansionPart, Stop, Last, Go, Within, line_part, onward_part, resumed}
 use Rattle.asm_macro.specs.Expands.{End, Whole, Ended, Stopped, Expands, nothing, line, Comes, stop, last, go, within, Follows, whole, ended, stopped, IsExpansion, long, short}
 
 -- These lines have an expansion: some lines, and a way to end. `Arrives` and `GoesOn` say the same of a part, and of what follows
@@ -35,16 +34,10 @@ stops d number given why = (given, Stopped number why, stop)
 goes : (n : ℕ) → Lead n → (d : ℕ) (given : List Numbered) (e : State) (rest : List Numbered) → room e < n → Arrives d (Go given e rest)
 goes n lead d given e rest h = let t = lead d e rest h in (given ++ t.0, t.1, go t.0 t.2)
 
-closes : (d : ℕ) (l : Numbered) (p : ExpansionPart) → Arrives d p → Arrives d (closing l p)
-closes d l p a = elim (is_alone (form_of l.text)) as (λ b. Arrives d (if b then p else Stop [] l.number MacroFault.Stray)) [
-  | true ↦ a
-  | false ↦ stops d l.number [] MacroFault.Stray
-]
-
-passes : (d : ℕ) (others : List Section) (p : ExpansionPart) → Arrives d p → Arrives d (passed others p)
-passes d [] p a = a
-passes d (t ∷ []) p a = closes d t.end p a
-passes d (t ∷ u ∷ more) p a = stops d t.end.number [] MacroFault.Stray
+-- if a line may be misplaced, expansion continues there or stops
+unless_stray : (d : ℕ) (e : State) (s : Option ℕ) (o : Onward) → Arrives d (onward_part d e o) → Arrives d (onward_part d e (stray_or s o))
+unless_stray d e None o a = a
+unless_stray d e (Some number) o a = stops d number [] MacroFault.Stray
 
 -- what follows some lines has an expansion, if it has one in each state with room for fewer than n lines
 follows : (n d : ℕ) (next : Next) → ((e : State) → room e < n → Arrives d (resumed d next e)) → (middle : End) → room_behind middle < n → GoesOn d middle next
@@ -64,8 +57,8 @@ module _
         let f = follows n d next again t.1 (omega (arith, h, texts inner e text t.0 t.1 t.2)) in
         ((given ++ t.0) ++ f.0, f.1, within t.0 f.0 t.1 t.2 f.2)
 
-    turns_arrive : (n : ℕ) → Lead n → (d some number : ℕ) (body : BlockBody) (e : State) → room e < n → Arrives d (repetition_part d some number body e)
-    turns_arrive n lead d zero number body e h = closes d body.section.end (Go [] e body.after) (goes n lead d [] e body.after h)
+    turns_arrive : (n : ℕ) → Lead n → (d some number : ℕ) (body : BlockBody) (e : State) → room e < n → Arrives d (resumed d (Turns some number body) e)
+    turns_arrive n lead d zero number body e h = unless_stray d e (stray body.section.end) (On body.after) (goes n lead d [] e body.after h)
     turns_arrive n lead d (suc k) number body e h =
         elim (nat_le MOST_LINES e.count) as (λ b. Arrives d (if b then Stop [] number MacroFault.TooManyLines else Within [] (with_line_counted e) (d + 1) (renumbered number body.section.lines) (Turns k number body))) [
           | true ↦ stops d number [] MacroFault.TooManyLines
@@ -74,9 +67,8 @@ module _
 
     resumes : (n : ℕ) → Lead n → (d : ℕ) (next : Next) (e : State) → room e < n → Arrives d (resumed d next e)
     resumes n lead d (Rest text) e h = goes n lead d [] e text h
-    resumes n lead d (BehindFirst b) e h = closes d b.first.end (passed b.others (Go [] e b.after)) (passes d b.others (Go [] e b.after) (goes n lead d [] e b.after h))
-    resumes n lead d (BehindSecond t [] after) e h = closes d t.end (Go [] e after) (goes n lead d [] e after h)
-    resumes n lead d (BehindSecond t (u ∷ more) after) e h = stops d t.end.number [] MacroFault.Stray
+    resumes n lead d (BehindFirst b) e h = unless_stray d e (stray b.first.end) (stray_or (stray_in b.others) (On b.after)) (unless_stray d e (stray_in b.others) (On b.after) (goes n lead d [] e b.after h))
+    resumes n lead d (BehindSecond t more after) e h = unless_stray d e (stray_in (t ∷ more)) (On after) (goes n lead d [] e after h)
     resumes n lead d (Turns k number body) e h = turns_arrive n lead d k number body e h
 
     arrives : (n : ℕ) → Lead n → (d : ℕ) (p : ExpansionPart) → most p ≤ n → Arrives d p

@@ -8,7 +8,8 @@ use Rattle.std.proofs.lemmas.List.{get_or-take, length-take-le}
 use Rattle.std.proofs.lemmas.Option.{get_or_from_slice_get, slice_get-get_or, slice_get_within}
 use Rattle.std.proofs.lemmas.Slice.Zip.{AllZip-left}
 use Rattle.asm_module.specs.declared.fault.AsmFault.{AsmFault}
-use Rattle.asm_module.specs.Assembled.{Assembled, Assembles, HasCause, IsStated}
+use Rattle.asm_module.specs.Assembled.{Assembled, Assembles, HasCause}
+use Rattle.asm_module.specs.Program.Described.{IsProgramOfSource}
 use Rattle.asm_module.specs.Program.Statement.{Statement}
 use Rattle.relax.specs.Choice.{Choice, IsValid}
 use Rattle.zlink.specs.declared.program.fault.JoinFault.{JoinFault}
@@ -34,7 +35,7 @@ OneAnswer = (name text : List ℕ) (grow : Bool) (a b : Result Assembled AsmFaul
 
 -- The law of `asm_module` that a source describes one program.
 abbrev pub OneProgram : Type 0
-OneProgram = (text : List ℕ) (grow : Bool) (a b : List Statement) → IsStated text grow a → IsStated text grow b → a ≡ b
+OneProgram = (text : List ℕ) (grow : Bool) (a b : List Statement) → IsProgramOfSource text grow a → IsProgramOfSource text grow b → a ≡ b
 
 module _ (law : OneAnswer) (programs : OneProgram) (grow : Bool) where
   -- A source has one assembly.

@@ -9,7 +9,8 @@ use Rattle.asm_text.specs.Lines.{Numbered}
 use Rattle.asm_module.specs.declared.assembling.Lines as listing
 use Rattle.asm_module.specs.declared.fault.AsmFault.{AsmFault}
 use Rattle.asm_module.specs.declared.fault.Why.{Why}
-use Rattle.asm_module.specs.Assembled.{Assembled, Assembles, IsRefused, States, answer, assembled, assembled_of}
+use Rattle.asm_module.specs.Assembled.{Assembled, Assembles, IsRefused, answer, assembled, assembled_of}
+use Rattle.asm_module.specs.Program.Described.{AreOfSource}
 use Rattle.asm_module.specs.Source.{source_fault as lines_fault}
 use Rattle.asm_module.specs.Below.{layout, numbered_statements, source_table}
 use Rattle.asm_module.specs.Reads.Read.{taken}
@@ -47,7 +48,7 @@ nothing_yet grow sources = record { assemblies = []; are = tt; held = record { m
 -- one more source is assembled
 pub one_more : (grow : Bool) (sources : List Source) (number : ℕ) (d : Source) (modules : List whole.Module) (lines : List listing.Lines) (m : whole.Module) (own : listing.Lines) (new_modules : List whole.Module) (new_lines : List listing.Lines)
     → number < length sources → SoFar grow sources number modules lines
-    → Assembles (get_or sources number d).name.now (get_or sources number d).text.now grow (Ok (assembled_of (m, own))) → IsModule (module_of m) → States (get_or sources number d).text.now grow (module_of m).statements
+    → Assembles (get_or sources number d).name.now (get_or sources number d).text.now grow (Ok (assembled_of (m, own))) → IsModule (module_of m) → AreOfSource (get_or sources number d).text.now grow (module_of m).statements
     → new_modules ≡ modules ++ m ∷ [] → new_lines ≡ lines ++ own ∷ [] → SoFar grow sources (number + 1) new_modules new_lines
 one_more grow sources number d modules lines m own new_modules new_lines lt so_far answered rules states with_module with_lines =
     let a : Assembly = record { assembled = assembled_of (m, own); program = states.0 } in

@@ -3,7 +3,8 @@ use Rattle.std.specs.Prelude.{◌≡◌, ◌≢◌, ℕ, Bool, List, Some, Ok, E
 use Rattle.std.specs.List.{AllZip, flat_map, zip}
 use Rattle.asm_module.specs.declared.fault.AsmFault.{AsmFault}
 use Rattle.asm_module.specs.declared.fault.Why.{Why}
-use Rattle.asm_module.specs.Assembled.{Assembled, Assembles, IsStated}
+use Rattle.asm_module.specs.Assembled.{Assembled, Assembles}
+use Rattle.asm_module.specs.Program.Described.{IsProgramOfSource}
 use Rattle.asm_module.specs.Program.Statement.{Statement}
 use Rattle.zmo_object.specs.Modules.{Module}
 use Rattle.zlink.specs.Program.Parts.{ModulePart, Publics, parts, all_publics}
@@ -18,7 +19,7 @@ pub record Assembly : Type 0 where
 
 pub record IsAssembly (grow : Bool) (source : Source) (a : Assembly) : Type 0 where
   pub assembled : Assembles source.name.now source.text.now grow (Ok a.assembled)
-  pub stated : IsStated source.text.now grow a.program
+  pub stated : IsProgramOfSource source.text.now grow a.program
 
 abbrev pub modules_of : List Assembly → List Module
 modules_of assemblies = map (λ a. a.assembled.holds) assemblies

@@ -1,4 +1,5 @@
 -- Which module some bytes are, or the first error. Fields are read in order, and each is judged once all its bytes are there.
+-- In words: docs/FORMATS.md, section 'Objects'.
 use Rattle.std.specs.Prelude.{◌≡◌, ℕ, ◌+◌, ◌-◌, ◌%◌, ◌==◌, ◌&&◌, not, if◌then◌else◌, Bool, true, false, nat_le, nat_lt, List, [], ◌∷◌, ◌++◌, Option, Some, None, Result, Ok, Err, length, take, drop, map}
 use Rattle.std.specs.List.{list_all, list_any}
 use Rattle.std.specs.Option.{option_and_then}
@@ -88,7 +89,8 @@ space_at bytes = do
   fill ← byte_field size.1
   Ok (object.Space size.0 fill.0, fill.1)
 
--- a statement after its tag, which is its first byte
+-- A statement after its tag, which is its first byte: 1 bytes with fix-ups, 2 a JP that may be short, 3 a JR or DJNZ, 4 space, and in a file
+-- of --grow 5, a JR that may be long.
 abbrev pub tagged_at : Bool → ℕ → List ℕ → ℕ → List ℕ → Field ModuleStatement
 tagged_at grow refs bytes tag rest =
     if tag == 1 then content_at refs rest

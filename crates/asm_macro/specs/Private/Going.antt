@@ -1,27 +1,13 @@
--- Where expansion continues at a block, as a part of the definitions.
-use Rattle.std.specs.Prelude.{◌≡◌, ◌<◌, ◌+◌, ℕ, List, [], Result, Ok, Err, if◌then◌else◌, nat_le}
+-- Where expansion continues at a block: how much it opens, and what may be opened.
+use Rattle.std.specs.Prelude.{◌≡◌, ◌<◌, ℕ, List, [], Result, Ok, Err}
 use Rattle.asm_macro.specs.declared.take.TheConstants.{MOST_NESTED}
-use Rattle.asm_macro.specs.declared.expansion.TheConstants.{MOST_LINES}
 use Rattle.asm_text.specs.declared.following.Following.{Following}
 use Rattle.asm_text.specs.Sections.Onward as onward
 use Rattle.asm_text.specs.Lines.{Numbered}
 use Rattle.asm_macro.specs.declared.fault.MacroFault.{MacroFault}
 use Rattle.asm_macro.specs.declared.moves.Stop as moves
-use Rattle.asm_macro.specs.State.{State, with_line_counted}
-use Rattle.asm_macro.specs.Parts.{ExpansionPart, Stop, Go, Within}
-
--- the lines of a body or branch begin, at a depth and from a state; a repetition of a REPT counts as a line that is read
-abbrev pub into : ℕ → State → List Numbered → onward.Next → ExpansionPart
-into depth e text (onward.Turns left number body) =
-    if nat_le MOST_LINES e.count then Stop [] number MacroFault.TooManyLines else Within [] (with_line_counted e) (depth + 1) text (onward.Turns left number body)
-into depth e text (onward.Rest more) = Within [] e depth text (onward.Rest more)
-into depth e text (onward.BehindFirst b) = Within [] e depth text (onward.BehindFirst b)
-into depth e text (onward.BehindSecond t more after) = Within [] e depth text (onward.BehindSecond t more after)
-
-abbrev pub part_of : ℕ → State → onward.Onward → ExpansionPart
-part_of depth e (onward.Stray number) = Stop [] number MacroFault.Stray
-part_of depth e (onward.On text) = Go [] e text
-part_of depth e (onward.Into text next) = into depth e text next
+use Rattle.asm_macro.specs.State.{State}
+use Rattle.asm_macro.specs.Parts.{ExpansionPart, Stop, Within}
 
 -- How many repetitions of a REPT begin, and how many spans of lines.
 abbrev pub turn_in : Following → ℕ

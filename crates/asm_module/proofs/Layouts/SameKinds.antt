@@ -16,7 +16,7 @@ use Rattle.asm_expr.specs.declared.unknown.Unknown.{Unknown}
 use Rattle.asm_expr.specs.Equating.{constant_of, equated}
 use Rattle.asm_expr.specs.Names.{Table}
 use Rattle.asm_expr.specs.Origins.{AgreeOn, is_number_item}
-use Rattle.asm_expr.specs.Below.{source}
+use Rattle.asm_expr.specs.Below.{source_tree}
 use Rattle.asm_expr.specs.Settling.{is_constant_item, settled, expression_size}
 use Rattle.asm_expr.proofs.Equates.{equated_as}
 use Rattle.asm_spell.specs.Line.{ExpressionItems}
@@ -27,7 +27,7 @@ use Rattle.asm_names.specs.Names.{Names}
 use Rattle.asm_names.specs.declared.equ_fault.EquFault.{EquFault}
 use Rattle.asm_names.specs.Circles.{items_at}
 use Rattle.asm_names.specs.Layout.{Layout}
-use Rattle.asm_names.specs.Meanings.{Entries, after_rounds, circular, equ_meaning, meaning, meaning_by, table_at, undefined, value_by}
+use Rattle.asm_names.specs.Meanings.{Entries, after_rounds, circular, equ_meaning, meaning, meaning_by, table_at, undefined, expression_fault_of}
 use Rattle.asm_stmt.specs.Sized as sized
 use Rattle.asm_stmt.specs.Sized.{IsLike, kind}
 use Rattle.asm_stmt.proofs.Likes.{agree_like, items_like, numbers_constant, of_numbers, whole_known}
@@ -62,7 +62,7 @@ neither t e other m is =
     by_test true constant (Settled.Unknown Unknown.VariesInByte) was = refl
 
 by_fault : (u : Option EquFault) (c : Bool) (r : Result Meaning ExprFault) → ((m : Meaning) → r ≡ Ok m → kind (Some m) ≡ sized.Neither)
-    → kind (Some (meaning_by (first (u ∷ if_so EquFault.EquCircle c ∷ value_by r ∷ [])) r)) ≡ sized.Neither
+    → kind (Some (meaning_by (first (u ∷ if_so EquFault.EquCircle c ∷ expression_fault_of r ∷ [])) r)) ≡ sized.Neither
 by_fault (Some why) c r told = refl
 by_fault None true r told = refl
 by_fault None false (Ok m) told = told m refl
@@ -70,14 +70,14 @@ by_fault None false (Err why) told = refl
 
 equ_like : Laws → (names : Names) (circle : ℕ → Bool) (t u : Table) → IsLike t u → (at : ℕ) (e : ExpressionItems)
     → kind (Some (equ_meaning names circle t at e)) ≡ kind (Some (equ_meaning names circle u at e))
-equ_like laws names circle t u like at e = by_test (list_all (is_number_item t) (postfix (source e))) refl
+equ_like laws names circle t u like at e = by_test (list_all (is_number_item t) (postfix (source_tree e))) refl
   where
-    none : (v : Table) → list_all (is_number_item v) (postfix (source e)) ≡ false → kind (Some (equ_meaning names circle v at e)) ≡ sized.Neither
-    none v other = by_fault (undefined names e) (circle at) (equated v (source e)) (neither v (source e) other)
+    none : (v : Table) → list_all (is_number_item v) (postfix (source_tree e)) ≡ false → kind (Some (equ_meaning names circle v at e)) ≡ sized.Neither
+    none v other = by_fault (undefined names e) (circle at) (equated v (source_tree e)) (neither v (source_tree e) other)
 
-    by_test : (b : Bool) → list_all (is_number_item t) (postfix (source e)) ≡ b → kind (Some (equ_meaning names circle t at e)) ≡ kind (Some (equ_meaning names circle u at e))
-    by_test true all = ap (λ r. kind (Some (meaning_by (first (undefined names e ∷ circular circle at ∷ value_by r ∷ [])) r))) (same_equated laws t u like (source e) all)
-    by_test false other = none t other ∙ sym (none u (sym (items_like t u like (postfix (source e))) ∙ other))
+    by_test : (b : Bool) → list_all (is_number_item t) (postfix (source_tree e)) ≡ b → kind (Some (equ_meaning names circle t at e)) ≡ kind (Some (equ_meaning names circle u at e))
+    by_test true all = ap (λ r. kind (Some (meaning_by (first (undefined names e ∷ circular circle at ∷ expression_fault_of r ∷ [])) r))) (same_equated laws t u like (source_tree e) all)
+    by_test false other = none t other ∙ sym (none u (sym (items_like t u like (postfix (source_tree e))) ∙ other))
 
 -- Two ways to give names meanings of the same kinds give each name the same kind.
 found_like : (f g : List ℕ → Kind → Meaning) (p : List ℕ → Bool) → ((x : List ℕ) (k : Kind) → kind (Some (f x k)) ≡ kind (Some (g x k))) → (names : Names)

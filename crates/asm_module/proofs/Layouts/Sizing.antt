@@ -10,7 +10,7 @@ use Rattle.asm_parse.specs.Expression as expression
 use Rattle.asm_parse.specs.Expression.{postfix}
 use Rattle.asm_parse.specs.Source.{Operand, Number, Name, Here}
 use Rattle.asm_expr.specs.declared.answer.Settled.{Settled}
-use Rattle.asm_expr.specs.Below.{Atom, only, run, source}
+use Rattle.asm_expr.specs.Below.{Atom, only, run, source_tree}
 use Rattle.asm_expr.specs.declared.meaning.Meaning.{Meaning}
 use Rattle.asm_expr.specs.Types.{Statement, Worth}
 use Rattle.asm_expr.specs.Distances.{is_unsized}
@@ -33,7 +33,7 @@ use Rattle.asm_module.proofs.Modules.Missing_names.{all_known}
 use Rattle.asm_module.proofs.Layouts.Sound.{sound_body, sound_both}
 
 -- If a test passes for all items and for `$`, it passes for the expression of these items. (Items that are no expression count as `$`.)
-pub source_passes : (p : Item Operand → Bool) → p (Item.Leaf Here) ≡ true → (e : ExpressionItems) → AllPass p e → list_all p (postfix (source e)) ≡ true
+pub source_passes : (p : Item Operand → Bool) → p (Item.Leaf Here) ≡ true → (e : ExpressionItems) → AllPass p e → list_all p (postfix (source_tree e)) ≡ true
 source_passes p here e all = by (run e []) refl
   where
     by : (o : Option (List (expression.Expression Operand))) → run e [] ≡ o → list_all p (postfix (only Here o)) ≡ true
@@ -76,8 +76,8 @@ pub space_number : NumbersSettle → (t : Table) → ConstantsAreNumbers t → (
     → (n : ℕ) × (number_in s ≡ Some n)
 space_number settle t numbers e known s is =
     let so = space_settled t e s is in
-    let all = both_pass (is_known t) (is_constant_item t) (is_number_item t) (number_item t numbers) (postfix (source e)) (source_passes (is_known t) refl e known) so.1 in
-    let n = settle t (source e) all s so.0 in
+    let all = both_pass (is_known t) (is_constant_item t) (is_number_item t) (number_item t numbers) (postfix (source_tree e)) (source_passes (is_known t) refl e known) so.1 in
+    let n = settle t (source_tree e) all s so.0 in
     (n.0, ap number_in n.2)
 
 jump_known : (o : Option ℕ) → is_unsized (jump_sized o) ≡ false

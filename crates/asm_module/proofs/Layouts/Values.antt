@@ -25,7 +25,7 @@ use Rattle.asm_expr.specs.declared.meaning.Meaning.{Meaning}
 use Rattle.asm_expr.specs.Names.{Table, found}
 use Rattle.asm_expr.specs.Offsets.{offset_after_here, offset}
 use Rattle.asm_expr.specs.Origins.{is_number_item, is_number_name, is_value, is_valued_item, is_valued_name}
-use Rattle.asm_expr.specs.Below.{source}
+use Rattle.asm_expr.specs.Below.{source_tree}
 use Rattle.asm_expr.specs.Settling.{fault, is_constant_item, is_constant_name, is_known, replaced, settled, worth}
 use Rattle.asm_expr.proofs.Anywhere.{number, of_infix}
 use Rattle.asm_spell.specs.declared.fault.StmtFault.{StmtFault}
@@ -135,11 +135,11 @@ module _ (settle : NumbersSettle) (t : Table) (settles : ValuesSettle t) (values
   valued_item (Item.Unary op) known = refl
   valued_item (Item.Binary op) known = refl
 
-  valued : (e : ExpressionItems) → IsDefined t e → list_all (is_valued_item t) (postfix (source e)) ≡ true
+  valued : (e : ExpressionItems) → IsDefined t e → list_all (is_valued_item t) (postfix (source_tree e)) ≡ true
   valued e known = source_passes (is_valued_item t) refl e (All-weaker (λ i. is_known t i ≡ true) (λ i. is_valued_item t i ≡ true) valued_item e known)
 
   value_in : (e : ExpressionItems) → IsDefined t e → (s : Settled) → settled_in t e ≡ Ok s → is_value s ≡ true
-  value_in e known s is = settles (source e) (valued e known) s (as_stmt_ok (settled t (source e)) s is)
+  value_in e known s is = settles (source_tree e) (valued e known) s (as_stmt_ok (settled t (source_tree e)) s is)
 
   numbers : ConstantsAreNumbers t
   numbers name what is constant = number_name (Some what) (values name what is) constant
@@ -150,7 +150,7 @@ module _ (settle : NumbersSettle) (t : Table) (settles : ValuesSettle t) (values
       fixed_number kind s.0 f (value_in e known s.0 s.1) s.2
 
   filled_told : (kind : Field) (e : ExpressionItems) (f : Filling) → IsDefined t e → field_filling t kind e ≡ Ok f → is_told f ≡ true
-  filled_told Field.Distance e f known is = distance_told (offset t (source e)) (fault t (source e)) f (offset_known t (source e) (valued e known)) is
+  filled_told Field.Distance e f known is = distance_told (offset t (source_tree e)) (fault t (source_tree e)) f (offset_known t (source_tree e) (valued e known)) is
   filled_told Field.Byte e f known is =
       let s = bind_ok (settled_in t e) byte f is in
       byte_told s.0 f (value_in e known s.0 s.1) s.2

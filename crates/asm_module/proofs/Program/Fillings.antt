@@ -9,7 +9,7 @@ use Rattle.asm_parse.specs.declared.operator.Binary.{Binary}
 use Rattle.asm_parse.specs.Expression.{Expression, Leaf, Prefix, Infix, postfix}
 use Rattle.asm_parse.specs.Source.{Operand, Number, Name, Here}
 use Rattle.asm_expr.specs.declared.answer.Settled.{Settled}
-use Rattle.asm_expr.specs.Below.{Atom, binary, value, source, tree}
+use Rattle.asm_expr.specs.Below.{Atom, binary, value, source_tree, tree}
 use Rattle.asm_expr.specs.declared.here.Offset.{Offset}
 use Rattle.asm_expr.specs.declared.unknown.Unknown.{Unknown}
 use Rattle.asm_expr.specs.Types.{Worth}
@@ -135,7 +135,7 @@ distance_from None Offset.NotConstant f is told = cc
 -- Each kind of field.
 from_settled : (t : Table) (places : ℕ → ℕ) → Step t.statements places → (e : line.ExpressionItems) (s : Settled) (items : List (Item Atom)) → settled_in t e ≡ Ok s → s ≡ Settled.Known items
     → value places (tree items) ≡ value places (replaced_expression t e)
-from_settled t places step e s items is known = settled_value t (source e) items (as_stmt_ok (settled t (source e)) s is ∙ ap (λ x. Ok x) known) places step
+from_settled t places step e s items is known = settled_value t (source_tree e) items (as_stmt_ok (settled t (source_tree e)) s is ∙ ap (λ x. Ok x) known) places step
 
 fixed_fills : (t : Table) (places : ℕ → ℕ) → Step t.statements places → (field : Field) (e : line.ExpressionItems) (f : Filling) → (settled_in t e >>= fixed field) ≡ Ok f → is_told f ≡ true
     → (n : ℕ) × (f ≡ Filling.Number n) × (allows field n ≡ true) × (worth_at places f ≡ value places (replaced_expression t e))
@@ -166,8 +166,8 @@ fills t places step Field.Restart e f is told =
     let w = fixed_fills t places step Field.Restart e f is told in
     record { worth = w.3; fit = subst (IsFit Field.Restart) (sym w.1) w.2 }
 fills t places step Field.Distance e f is told =
-    let w = distance_from (fault t (source e)) (offset t (source e)) f is told in
+    let w = distance_from (fault t (source_tree e)) (offset t (source_tree e)) f is told in
     record {
-      worth = ap (worth_at places) w.2 ∙ sym (offset_value t places step (source e) w.0 w.1);
+      worth = ap (worth_at places) w.2 ∙ sym (offset_value t places step (source_tree e) w.0 w.1);
       fit = subst (IsFit Field.Distance) (sym w.2) w.3;
     }

@@ -10,7 +10,7 @@ use Rattle.asm_expr.specs.declared.answer.Settled.{Settled}
 use Rattle.asm_expr.specs.Types.{Statement as Size}
 use Rattle.asm_expr.specs.Distances.{Step}
 use Rattle.asm_expr.specs.Names.{Table, found}
-use Rattle.asm_expr.specs.Below.{source}
+use Rattle.asm_expr.specs.Below.{source_tree}
 use Rattle.asm_expr.specs.Settling.{settled}
 use Rattle.asm_expr.proofs.Sizes.{sum_by-cons}
 use Rattle.z80_instr.specs.declared.Instr.{Instr}
@@ -126,7 +126,7 @@ jump_holds rows t condition target p None is =
 size_fixed : (t : Table) (e : line.ExpressionItems) (s : Settled) (n : ℕ) → space_size t e ≡ Ok s → number_in s ≡ Some n → fixed_number t e ≡ n
 size_fixed t e s n is one =
     let known = number_in_ok s n one in
-    ap statement.known_number (settled_worth t (source e) known.0 n ((space_settled t e s is).0 ∙ ap (λ x. Ok x) known.1) known.2)
+    ap statement.known_number (settled_worth t (source_tree e) known.0 n ((space_settled t e s is).0 ∙ ap (λ x. Ok x) known.1) known.2)
 
 -- the fill byte of a DS
 fill_fixed : (t : Table) (fill : Option line.ExpressionItems) (f : Filling) (k : ℕ) → space_fill t fill ≡ Ok f → f ≡ Filling.Number k → fill_byte t fill ≡ k % 256
@@ -135,7 +135,7 @@ fill_fixed t (Some e) f k is one =
     let first = bind_ok (settled_in t e) (field.fixed Field.Byte) f is in
     let from = fixed_from Field.Byte first.0 f first.2 (ap is_told one) in
     let same : from.1 ≡ k = cc in
-    ap (λ n. n % 256) (ap statement.known_number (settled_worth t (source e) from.0 from.1 (as_stmt_ok (settled t (source e)) first.0 first.1 ∙ ap (λ x. Ok x) from.2) from.3) ∙ same)
+    ap (λ n. n % 256) (ap statement.known_number (settled_worth t (source_tree e) from.0 from.1 (as_stmt_ok (settled t (source_tree e)) first.0 first.1 ∙ ap (λ x. Ok x) from.2) from.3) ∙ same)
 
 space_piece : (t : Table) (n b : ℕ) (p : Piece) → made.Space n b ≡ p → Holds t p (statement.Space n b)
 space_piece t n b p same =

@@ -8,7 +8,7 @@ use Rattle.asm_parse.specs.declared.item.Item.{Item}
 use Rattle.asm_parse.specs.Expression.{Expression}
 use Rattle.asm_parse.specs.Source.{Name, Operand}
 use Rattle.asm_expr.specs.declared.answer.Settled.{Settled}
-use Rattle.asm_expr.specs.Below.{Atom, IsExpr, refs, source}
+use Rattle.asm_expr.specs.Below.{Atom, IsExpr, refs, source_tree}
 use Rattle.asm_expr.specs.declared.meaning.Meaning.{Meaning}
 use Rattle.asm_expr.specs.declared.unknown.Unknown.{Unknown}
 use Rattle.asm_expr.specs.Names.{AreCounted, Table, found}
@@ -29,7 +29,7 @@ use Rattle.zmo_object.specs.declared.module.hole.Width.{Width}
 use Rattle.zmo_object.specs.Holes.{FitsWidth, IsHole, LieWithin, ends_in_byte, width_size}
 use Rattle.asm_stmt.specs.declared.cell.Cell.{Cell}
 use Rattle.asm_stmt.specs.declared.cell.Filling.{Filling}
-use Rattle.asm_stmt.specs.Cells.{bytes, cell_bytes, hole, holes, is_told, number_or_0, written}
+use Rattle.asm_stmt.specs.Cells.{bytes, cell_bytes, hole, holes, is_filled, number_or_0, written}
 use Rattle.asm_stmt.specs.Fields as piece_field
 use Rattle.asm_stmt.specs.Fields.{byte, byte_by, fixed, number, settled_in, word_filling, word_filling_by}
 use Rattle.asm_stmt.specs.Made as made
@@ -100,9 +100,9 @@ record Below (n : ℕ) (t : Table) : Type 0 where
 
 items_good : (n : ℕ) (t : Table) → Below n t → (e : line.ExpressionItems) (items : List (Item Atom)) → settled_in t e ≡ Ok (Settled.Known items) → AreGood n items
 items_good n t b e items is =
-    let so = as_stmt_ok (settled t (source e)) (Settled.Known items) is in
-    let worth = b.laws.worth t b.counted (source e) (Settled.Known items) so in
-    (worth.expr, All-weaker (IsBelow n) (λ r. r < n) (λ r. ltb-true r n) (refs items) (b.laws.refs (λ r. nat_lt r n) t (tested n t b.brings) (source e) (Settled.Known items) so))
+    let so = as_stmt_ok (settled t (source_tree e)) (Settled.Known items) is in
+    let worth = b.laws.worth t b.counted (source_tree e) (Settled.Known items) so in
+    (worth.expr, All-weaker (IsBelow n) (λ r. r < n) (λ r. ltb-true r n) (refs items) (b.laws.refs (λ r. nat_lt r n) t (tested n t b.brings) (source_tree e) (Settled.Known items) so))
 
 abbrev Know : ℕ → Settled → Type 0
 Know n s = (items : List (Item Atom)) → s ≡ Settled.Known items → AreGood n items
@@ -129,7 +129,7 @@ word_good n (Settled.Known items) f know is = by_number (number items) is
     by_number None is = let fine = know items refl in subst (IsGood n Width.Word) is (fine.0, tt, fine.1)
 word_good n (Settled.Unknown what) f know is = subst (IsGood n Width.Word) is tt
 
-number_fixed : (f : Filling) → (is_told f ≡ true → (k : ℕ) × (f ≡ Filling.Number k)) → IsFixed f
+number_fixed : (f : Filling) → (is_filled f ≡ true → (k : ℕ) × (f ≡ Filling.Number k)) → IsFixed f
 number_fixed (Filling.Number k) number = tt
 number_fixed Filling.Unknown number = tt
 number_fixed (Filling.Varying items) number = let bad = (number refl).1 in cc
@@ -145,7 +145,7 @@ good n t b Field.Word e f is =
     let s = bind_ok (settled_in t e) (λ s. Ok (word_filling s)) f is in
     let same : word_filling s.0 ≡ f = cc in
     word_good n s.0 f (λ items same. items_good n t b e items (s.1 ∙ ap (λ x. Ok x) same)) same
-good n t b Field.Distance e f is = number_fixed f (λ told. let w = distance_from (fault t (source e)) (offset t (source e)) f is told in (piece_field.from_end w.0, w.2))
+good n t b Field.Distance e f is = number_fixed f (λ told. let w = distance_from (fault t (source_tree e)) (offset t (source_tree e)) f is told in (piece_field.from_end w.0, w.2))
 good n t b Field.Displacement e f is = let s = bind_ok (settled_in t e) (fixed Field.Displacement) f is in settled_fixed Field.Displacement s.0 f s.2
 good n t b Field.Bit e f is = let s = bind_ok (settled_in t e) (fixed Field.Bit) f is in settled_fixed Field.Bit s.0 f s.2
 good n t b Field.Mode e f is = let s = bind_ok (settled_in t e) (fixed Field.Mode) f is in settled_fixed Field.Mode s.0 f s.2
@@ -231,7 +231,7 @@ word_cells_good n t b e cs is =
     subst (AllGood n) same (good n t b Field.Word e f.0 f.1, tt)
 
 data_keeps : {A : Type 0} (n : ℕ) (read : A → Result (List Cell) StmtFault) → ((x : A) (cs : List Cell) → read x ≡ Ok cs → AllGood n cs) → (xs : List A) (p : Piece)
-    → made.all_laid (each read xs) ≡ Ok (Some_piece p) → KeepsPieceRules n p
+    → made.items_made (each read xs) ≡ Ok (Some_piece p) → KeepsPieceRules n p
 data_keeps n read each_one xs p is =
     let d = data_made read xs p is in
     let all = each_holds (λ cs ys. AllGood n cs) read tt (λ x cs rest ys was so. good-append n cs rest (each_one x cs was) so) xs d.cells d.is in
@@ -273,7 +273,7 @@ number_keeps rows n instr Field.Mode (Filling.Varying items) size same is fit = 
 number_keeps rows n instr Field.Restart (Filling.Varying items) size same is fit = absurd fit
 
 -- A displacement is a known number.
-displaced : (x : Filling) → IsFixed x → is_told x ≡ true → (k : ℕ) × (x ≡ Filling.Number k)
+displaced : (x : Filling) → IsFixed x → is_filled x ≡ true → (k : ℕ) × (x ≡ Filling.Number k)
 displaced (Filling.Number k) is told = (k, refl)
 displaced (Filling.Varying items) is told = absurd is
 displaced Filling.Unknown is told = cc

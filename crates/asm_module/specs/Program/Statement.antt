@@ -6,7 +6,7 @@ use Rattle.asm_parse.specs.declared.item.Item.{Item}
 use Rattle.asm_parse.specs.declared.operator.Binary.{Binary}
 use Rattle.asm_parse.specs.Expression.{Expression, Leaf, Prefix, Infix}
 use Rattle.asm_parse.specs.Source.{Operand, Number, Name, Here}
-use Rattle.asm_expr.specs.Below.{Atom, source, tree}
+use Rattle.asm_expr.specs.Below.{Atom, source_tree, tree}
 use Rattle.asm_expr.specs.declared.answer.Settled.{Settled}
 use Rattle.asm_expr.specs.declared.meaning.Meaning.{Meaning}
 use Rattle.asm_expr.specs.Types.{Worth}
@@ -60,7 +60,7 @@ with_meant t (Prefix op a) = Prefix op (with_meant t a)
 with_meant t (Infix op a b) = Infix op (with_meant t a) (with_meant t b)
 
 abbrev pub replaced_expression : Table → line.ExpressionItems → Expression Atom
-replaced_expression t e = with_meant t (source e)
+replaced_expression t e = with_meant t (source_tree e)
 
 -- the address after a JR or DJNZ at `$`
 abbrev pub end_of : Table → Expression Atom
@@ -96,7 +96,7 @@ known_number (Worth.Number n) = n
 known_number _ = 0
 
 abbrev pub fixed_number : Table → line.ExpressionItems → ℕ
-fixed_number t e = known_number (worth t (replaced t (source e)))
+fixed_number t e = known_number (worth t (replaced t (source_tree e)))
 
 abbrev pub fill_byte : Table → Option line.ExpressionItems → ℕ
 fill_byte t None = 0

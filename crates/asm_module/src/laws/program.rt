@@ -4,7 +4,7 @@
 ghost use Rattle.std.specs.Prelude.{◌≡◌, ◌<◌, ℕ, All, Bool, true, false, List, Some, None, Ok, length, map};
 ghost use Rattle.std.specs.List.{list_all, list_any};
 ghost use Rattle.asm_parse.specs.Expression.{postfix};
-ghost use Rattle.asm_expr.specs.Below.{source, value};
+ghost use Rattle.asm_expr.specs.Below.{source_tree, value};
 ghost use Rattle.asm_expr.specs.Distances.{Step, is_unsized};
 ghost use Rattle.asm_expr.specs.Names.{Table, found};
 ghost use Rattle.asm_expr.specs.Origins.{is_valued_item, is_valued_name};
@@ -59,8 +59,8 @@ pub(super) fn statements_at_places()
 /// line. In a source without an error each name that is used has a value (`asm_names::laws::valued`).
 pub fn level_by_level()
     ensures { (names : Names) (lines : List Taken) (circle : ℕ → Bool) (layout : Layout) (places : ℕ → ℕ) → Step layout.statements places →
-        (at : ℕ) (e : ExpressionItems) → list_all (is_valued_item (table_at layout (name_meanings names lines circle layout) at)) (postfix (source e)) ≡ true →
-        HasValue names lines layout places at (source e) (value places (replaced_expression (table_at layout (name_meanings names lines circle layout) at) e)) }
+        (at : ℕ) (e : ExpressionItems) → list_all (is_valued_item (table_at layout (name_meanings names lines circle layout) at)) (postfix (source_tree e)) ≡ true →
+        HasValue names lines layout places at (source_tree e) (value places (replaced_expression (table_at layout (name_meanings names lines circle layout) at) e)) }
 {
     asm_names::laws::level_by_level();
 }

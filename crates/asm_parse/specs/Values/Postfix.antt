@@ -32,5 +32,5 @@ abbrev pub tree : List (Item Atom) → Expression Atom
 tree items = only (Atom.Number 0) (run items [])
 
 -- the expression of a source that has these items in postfix order
-abbrev pub source : List (Item Operand) → Expression Operand
-source items = only Here (run items [])
+abbrev pub source_tree : List (Item Operand) → Expression Operand
+source_tree items = only Here (run items [])

@@ -3,7 +3,8 @@
 ghost use Rattle.std.specs.Prelude.{◌≡◌, ◌≤◌, ◌++◌, ℕ, Bool, IfOk, List, Ok, OnOk, length, map};
 ghost use Rattle.std.specs.List.{slice_index_or};
 ghost use Rattle.asm_macro.specs.Expands.{IsExpanded};
-ghost use Rattle.asm_module.specs.Assembled.{Assembled, Assembles, IsStated};
+ghost use Rattle.asm_module.specs.Assembled.{Assembled, Assembles};
+ghost use Rattle.asm_module.specs.Program.Described.{IsProgramOfSource};
 ghost use Rattle.asm_module.specs.Reads.Read.{taken};
 ghost use Rattle.asm_module.specs.Program.Statement.{Statement as Stated};
 ghost use Rattle.asm_text.specs.Lines.{Numbered};
@@ -100,8 +101,8 @@ fn put_told(
 /// The statements of a module are those that its source describes, and what the lines of the source say. (A law: it does nothing, and its
 /// clause is a theorem.)
 pub(crate) fn told_sources()
-    ensures few { (name text : List ℕ) (grow : Bool) (a : Assembled) (p : List Stated) → Assembles name text grow (Ok a) → IsStated text grow p → length a.holds.statements ≤ length p }
-    ensures told { (name text : List ℕ) (grow : Bool) (a : Assembled) (p : List Stated) (lines : List Numbered) → Assembles name text grow (Ok a) → IsStated text grow p →
+    ensures few { (name text : List ℕ) (grow : Bool) (a : Assembled) (p : List Stated) → Assembles name text grow (Ok a) → IsProgramOfSource text grow p → length a.holds.statements ≤ length p }
+    ensures told { (name text : List ℕ) (grow : Bool) (a : Assembled) (p : List Stated) (lines : List Numbered) → Assembles name text grow (Ok a) → IsProgramOfSource text grow p →
         IsExpanded text (Ok lines) → AreTold a.holds.statements p (spec.line_kinds (taken lines)) }
 {
     asm_macro::laws::one_expansion();
@@ -116,7 +117,7 @@ fn put_source(
     text: &[u8],
     module: &Module,
 ) -> Result<(), AllocError>
-    ensures { OnOk result ((name : List ℕ) (grow : Bool) (a : Assembled) (p : List Stated) → Assembles name text.now grow (Ok a) → IsStated text.now grow p →
+    ensures { OnOk result ((name : List ℕ) (grow : Bool) (a : Assembled) (p : List Stated) → Assembles name text.now grow (Ok a) → IsProgramOfSource text.now grow p →
         module_of «module».now ≡ a.holds → length a.holds.statements ≡ length p → kinds.new.items ≡ kinds.old.items ++ all_kinds p) }
 {
     told_sources();

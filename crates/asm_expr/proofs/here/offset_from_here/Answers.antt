@@ -4,7 +4,7 @@ use Rattle.std.proofs.lemmas.Bool.{false≢true}
 use Rattle.asm_expr.specs.Private.Heads.{IsNotFromHere, numbered}
 use Rattle.std.proofs.lemmas.Result.{err_from_is_err_and}
 use Rattle.asm_parse.specs.Source.{source_item}
-use Rattle.asm_parse.specs.Values.Postfix.{source}
+use Rattle.asm_parse.specs.Values.Postfix.{source_tree}
 use Rattle.asm_expr.specs.Settling.{is_constant_item}
 use Rattle.asm_expr.specs.Types.{Settled}
 use Rattle.asm_expr.proofs.Answers.{is_settled}
@@ -15,13 +15,13 @@ use Rattle.asm_expr.proofs.here.offset_from_here.Goals as goal
 pub returns-in_default : goal.returns-in_default
 returns-in_default c =
     let t = c.args.names.now in
-    let e = source c.args.parsed.now in
+    let e = source_tree c.args.parsed.now in
     let whole = source_whole c.args.parsed.now c.items-operand.ensures.source ∙ sym c.items-operand.ensures.items in
     other t e (λ alone. false≢true (sym c.if-is_here.false ∙ c.is_here.ensures.1 (sym whole ∙ alone))) (subst IsNotFromHere (sym whole) c.in_default.ensures)
 
 pub returns-in_err-settled : goal.returns-in_err-settled
 returns-in_err-settled c =
-    let e = source c.args.parsed.now in
+    let e = source_tree c.args.parsed.now in
     let whole = source_whole c.args.parsed.now c.items-operand.ensures.source ∙ sym c.items-operand.ensures.items in
     let b = begins e c.in-Some.op _ _ whole c.in-Some.ensures in
     let p = err_from_is_err_and c.from_residual.result c.from_residual.ensures.1 in
@@ -30,7 +30,7 @@ returns-in_err-settled c =
 pub returns-then-not-all_constant : goal.returns-then-not-all_constant
 returns-then-not-all_constant c =
     let t = c.args.names.now in
-    let e = source c.args.parsed.now in
+    let e = source_tree c.args.parsed.now in
     let whole = source_whole c.args.parsed.now c.items-operand.ensures.source ∙ sym c.items-operand.ensures.items in
     let b = begins e c.in-Some.op _ _ whole c.in-Some.ensures in
     let all = list_all-map (is_constant_item t) source_item c.in-Some.n.now ∙ sym c.if-not-all_constant.ensures in
@@ -39,7 +39,7 @@ returns-then-not-all_constant c =
 pub returns-in-Known : goal.returns-in-Known
 returns-in-Known c =
     let t = c.args.names.now in
-    let e = source c.args.parsed.now in
+    let e = source_tree c.args.parsed.now in
     let whole = source_whole c.args.parsed.now c.items-operand.ensures.source ∙ sym c.items-operand.ensures.items in
     let b = begins e c.in-Some.op _ _ whole c.in-Some.ensures in
     let all = list_all-map (is_constant_item t) source_item c.in-Some.n.now ∙ sym c.if-not-all_constant.ensures in
@@ -49,7 +49,7 @@ returns-in-Known c =
 pub returns-in-Unknown : goal.returns-in-Unknown
 returns-in-Unknown c =
     let t = c.args.names.now in
-    let e = source c.args.parsed.now in
+    let e = source_tree c.args.parsed.now in
     let whole = source_whole c.args.parsed.now c.items-operand.ensures.source ∙ sym c.items-operand.ensures.items in
     let b = begins e c.in-Some.op _ _ whole c.in-Some.ensures in
     let all = list_all-map (is_constant_item t) source_item c.in-Some.n.now ∙ sym c.if-not-all_constant.ensures in

@@ -5,7 +5,7 @@ use Rattle.asm_expr.specs.Types.{Item}
 use Rattle.asm_parse.specs.Expression.{postfix}
 use Rattle.asm_parse.specs.Private.Steps.{arity}
 use Rattle.asm_parse.specs.Source.{Operand, source_item}
-use Rattle.asm_parse.specs.Values.Postfix.{source}
+use Rattle.asm_parse.specs.Values.Postfix.{source_tree}
 use Rattle.asm_expr.specs.Settling.{is_known}
 use Rattle.asm_expr.specs.Private.Folding.{Folds, fold_all, items_for, item_size}
 use Rattle.asm_expr.proofs.Steps.{Settles, settles_start, settles_arity, settles_large, settles_next, settles_refused, settles_end, source_whole, run_source, read_at}
@@ -20,9 +20,9 @@ returns-then-size-gt-MOST_ITEMS c =
     let t = c.args.names.now in
     let x = source_item c.item-item.result in
     let at = read_at xs c.loop-item.item-index c.item-item.result c.item-item.is in
-    let whole : postfix (source c.args.parsed.now) ≡ map source_item xs = source_whole _ c.items-item-items.ensures.source ∙ sym c.items-item-items.ensures.items in
+    let whole : postfix (source_tree c.args.parsed.now) ≡ map source_item xs = source_whole _ c.items-item-items.ensures.source ∙ sym c.items-item-items.ensures.items in
     let many : 64 < c.loop-item.size + item_size t x = omega (arith, c.from-size.ensures, c.item_size.ensures) in
-    settles_large t (map source_item xs) c.loop-item.item-index c.loop-item.size _ x (source c.args.parsed.now) whole (omega (arith, length-map xs source_item)) c.loop-item.invariant
+    settles_large t (map source_item xs) c.loop-item.item-index c.loop-item.size _ x (source_tree c.args.parsed.now) whole (omega (arith, length-map xs source_item)) c.loop-item.invariant
     (subst (λ y. 64 < c.loop-item.size + item_size t y) (sym at) many)
 
 pub take_item-requires-clause-known : goal.take_item-requires-clause-known
@@ -48,12 +48,12 @@ returns-in_err-take_item c =
     let x = source_item c.item-item.result in
     let s = c.loop-item.invariant in
     let at = read_at xs c.loop-item.item-index c.item-item.result c.item-item.is in
-    let whole : postfix (source c.args.parsed.now) ≡ map source_item xs = source_whole _ c.items-item-items.ensures.source ∙ sym c.items-item-items.ensures.items in
+    let whole : postfix (source_tree c.args.parsed.now) ≡ map source_item xs = source_whole _ c.items-item-items.ensures.source ∙ sym c.items-item-items.ensures.items in
     let left = run_source _ _ c.items-item-items.ensures.source c.items-item-items.ensures.items in
     let enough = settles_arity _ (map source_item xs) c.loop-item.item-index c.loop-item.size _ x _ left.1 (omega (arith, length-map xs source_item)) s in
     let few : c.loop-item.size + item_size t x ≤ 64 = omega (arith, c.from-size.ensures, c.item_size.ensures) in
     let p = err_from_is_err_and c.from_residual.result c.from_residual.ensures.1 in
-    rw (p.1, p.2) (settles_refused t (map source_item xs) c.loop-item.item-index c.loop-item.size _ c.take_item.new.out x (source c.args.parsed.now) c.in_err-take_item.field-0.0 whole
+    rw (p.1, p.2) (settles_refused t (map source_item xs) c.loop-item.item-index c.loop-item.size _ c.take_item.new.out x (source_tree c.args.parsed.now) c.in_err-take_item.field-0.0 whole
     (omega (arith, length-map xs source_item)) s (subst (λ y. c.loop-item.size + item_size t y ≤ 64) (sym at) few)
     (subst (λ y. Folds (fold_all t (items_for t y) s.now) {A = Unit {0}} (Err c.in_err-take_item.field-0.0) c.take_item.new.out) (sym at)
     (c.in_err-take_item.ensures.folds s.now s.written (subst (λ y. arity y ≤ length s.now) at enough.0))))
@@ -78,7 +78,7 @@ loop-item-preserved c =
 pub returns : goal.returns
 returns c =
     let xs = c.items-item-items.result.now in
-    let e = source c.args.parsed.now in
+    let e = source_tree c.args.parsed.now in
     let whole : postfix e ≡ map source_item xs = source_whole _ c.items-item-items.ensures.source ∙ sym c.items-item-items.ensures.items in
     settles_end c.args.names.now (map source_item xs) c.loop-item.item-index c.loop-item.size _ e whole (omega (arith, length-map xs source_item)) c.loop-item.invariant
 

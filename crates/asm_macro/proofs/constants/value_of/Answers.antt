@@ -5,7 +5,7 @@ use Rattle.asm_line.specs.Tokens.{lexemes}
 use Rattle.asm_parse.specs.Parsed.{parsed}
 use Rattle.asm_parse.specs.Source.{AreExpressionItems}
 use Rattle.asm_parse.specs.Expression.{postfix}
-use Rattle.asm_expr.specs.Below.{source}
+use Rattle.asm_expr.specs.Below.{source_tree}
 use Rattle.asm_expr.specs.Settling.{is_constant_item, is_known}
 use Rattle.asm_expr.proofs.Steps.{source_whole}
 use Rattle.asm_macro.specs.Private.Constants.{table_of}
@@ -17,7 +17,7 @@ returns-then-not-is_constant c = λ cs is.
     let same = source_whole c.in_ok-tree.tree (subst AreExpressionItems c.tree.view_is c.tree.invariant) in
     let read = items_read (parsed (lexemes c.args.tokens.now)) c.in_ok-tree.tree c.in_ok-tree.ensures.parsed in
     let none : list_all (is_constant_item (table_of cs)) c.in_ok-tree.tree ≡ false =
-    ap (list_all (is_constant_item (table_of cs))) (sym same) ∙ ap (λ t. list_all (is_constant_item t) (postfix (source c.in_ok-tree.tree))) (sym is) ∙ sym c.is_constant.ensures ∙ c.if-not-is_constant.true in
+    ap (list_all (is_constant_item (table_of cs))) (sym same) ∙ ap (λ t. list_all (is_constant_item t) (postfix (source_tree c.in_ok-tree.tree))) (sym is) ∙ sym c.is_constant.ensures ∙ c.if-not-is_constant.true in
     inl (sym (no_number cs (lexemes c.args.tokens.now) c.in_ok-tree.tree read (no_constant (table_of cs) c.in_ok-tree.tree none)))
 
 pub returns-then-not-is_defined : goal.returns-then-not-is_defined
@@ -32,7 +32,7 @@ returns-in_err-settled c = λ cs is.
     let same = source_whole c.in_ok-tree.tree (subst AreExpressionItems c.tree.view_is c.tree.invariant) in
     let read = items_read (parsed (lexemes c.args.tokens.now)) c.in_ok-tree.tree c.in_ok-tree.ensures.parsed in
     let constant : list_all (is_constant_item (table_of cs)) c.in_ok-tree.tree ≡ true =
-    ap (list_all (is_constant_item (table_of cs))) (sym same) ∙ ap (λ t. list_all (is_constant_item t) (postfix (source c.in_ok-tree.tree))) (sym is) ∙ sym c.is_constant.ensures ∙ c.if-not-is_constant.false in
+    ap (list_all (is_constant_item (table_of cs))) (sym same) ∙ ap (λ t. list_all (is_constant_item t) (postfix (source_tree c.in_ok-tree.tree))) (sym is) ∙ sym c.is_constant.ensures ∙ c.if-not-is_constant.false in
     let defined : list_all (is_known (table_of cs)) c.in_ok-tree.tree ≡ true =
     ap (λ t. list_all (is_known t) c.in_ok-tree.tree) (sym is) ∙ all_known c.args.names.now c.in_ok-tree.tree c.is_defined.result c.is_defined.ensures ∙ c.if-not-is_defined.false in
     let some = all_plain (table_of cs) c.in_ok-tree.tree constant defined in
@@ -44,7 +44,7 @@ returns c = λ cs is.
     let same = source_whole c.in_ok-tree.tree (subst AreExpressionItems c.tree.view_is c.tree.invariant) in
     let read = items_read (parsed (lexemes c.args.tokens.now)) c.in_ok-tree.tree c.in_ok-tree.ensures.parsed in
     let constant : list_all (is_constant_item (table_of cs)) c.in_ok-tree.tree ≡ true =
-    ap (list_all (is_constant_item (table_of cs))) (sym same) ∙ ap (λ t. list_all (is_constant_item t) (postfix (source c.in_ok-tree.tree))) (sym is) ∙ sym c.is_constant.ensures ∙ c.if-not-is_constant.false in
+    ap (list_all (is_constant_item (table_of cs))) (sym same) ∙ ap (λ t. list_all (is_constant_item t) (postfix (source_tree c.in_ok-tree.tree))) (sym is) ∙ sym c.is_constant.ensures ∙ c.if-not-is_constant.false in
     let defined : list_all (is_known (table_of cs)) c.in_ok-tree.tree ≡ true =
     ap (λ t. list_all (is_known t) c.in_ok-tree.tree) (sym is) ∙ all_known c.args.names.now c.in_ok-tree.tree c.is_defined.result c.is_defined.ensures ∙ c.if-not-is_defined.false in
     let some = all_plain (table_of cs) c.in_ok-tree.tree constant defined in

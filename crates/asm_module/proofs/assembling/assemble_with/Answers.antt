@@ -5,7 +5,8 @@ use Rattle.asm_macro.specs.Texts.{source_lines}
 use Rattle.asm_module.specs.Reads.Source.{last_listed}
 use Rattle.asm_names.specs.Lines.{lines_of, taken_of}
 use Rattle.zmo_object.specs.Modules.{module_of}
-use Rattle.asm_module.specs.Assembled.{IsRefused, StatesLines}
+use Rattle.asm_module.specs.Assembled.{IsRefused}
+use Rattle.asm_module.specs.Program.Described.{AreOfLines}
 use Rattle.asm_module.proofs.Whole.{few_lines, no_fault, of_text, other_fault, passed_fault, stops}
 use Rattle.asm_module.proofs.assembling.assemble_with.Goals as goal
 
@@ -47,5 +48,5 @@ returns-clause-answer c =
 pub returns-clause-placed : goal.returns-clause-placed
 returns-clause-placed c =
     let s = c.in-Ok.ensures in
-    let p = subst (λ ls. StatesLines c.args.grow ls (module_of c.in_ok-module.module).statements) s.2 c.in_ok-module.ensures.placed in
+    let p = subst (λ ls. AreOfLines c.args.grow ls (module_of c.in_ok-module.module).statements) s.2 c.in_ok-module.ensures.placed in
     (p.0, (s.0, s.1, p.1), p.2)

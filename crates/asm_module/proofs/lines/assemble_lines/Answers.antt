@@ -11,7 +11,7 @@ use Rattle.zmo_object.specs.Rules.{IsModule}
 use Rattle.asm_module.proofs.Kept.{is_module, states_lines}
 use Rattle.asm_module.proofs.Passed.{equ_first, state_first, whole}
 use Rattle.asm_module.proofs.lines.assemble_lines.Goals as goal
-use Rattle.asm_module.specs.Assembled.{StatesLines}
+use Rattle.asm_module.specs.Program.Described.{AreOfLines}
 use Rattle.asm_module.specs.Private.Steps.{held}
 
 pub returns-in-Some-clause-answer : goal.returns-in-Some-clause-answer
@@ -59,5 +59,5 @@ returns-clause-placed c =
     let o = c.in_ok-outline.outline in
     let made = map statement_of c.in-Ok.stated.statements.items in
     let is_held = ap (λ (m : Module). record m { statements = map statement_of c.in-Ok.stated.statements.items }) (c.in_ok-module.ensures ∙ ap (λ ls. held c.args.name.now c.args.grow (lines_of ls) (layout_of o.layout) []) c.deref-2.ensures.value) in
-    subst (StatesLines c.args.grow lines) (sym (ap (λ m. m.statements) is_held))
+    subst (AreOfLines c.args.grow lines) (sym (ap (λ m. m.statements) is_held))
     (states_lines c.args.grow lines o made (subst (λ ls. IsOutline c.args.grow (lines_of ls) o) c.deref.ensures.value c.in_ok-outline.ensures.outlined) c.in-Ok.ensures.program)

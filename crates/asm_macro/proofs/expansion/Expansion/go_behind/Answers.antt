@@ -4,9 +4,10 @@ use Rattle.asm_text.specs.Prepared.{said}
 use Rattle.asm_text.specs.Sections.Onward.{behind}
 use Rattle.asm_text.specs.Sections.Views.{next_of, onward_seen}
 use Rattle.asm_macro.specs.Private.Frames.{innermost}
-use Rattle.asm_macro.specs.Private.Going.{Fits, part_of, texts_opened, turns_opened}
+use Rattle.asm_macro.specs.Parts.{onward_part}
+use Rattle.asm_macro.specs.Private.Going.{Fits, texts_opened, turns_opened}
 use Rattle.asm_macro.specs.Private.Moves.{Resumes, moved, rest_of, state_of, tables_in}
-use Rattle.asm_macro.proofs.Onwards.{behind_opens, fits_behind, one_text, resumed_is}
+use Rattle.asm_macro.proofs.Onwards.{behind_opens, fits_behind, one_text}
 use Rattle.asm_macro.proofs.Stacks.{all_ok, last_table, so_ok}
 use Rattle.asm_macro.proofs.expansion.Expansion.go_behind.Goals as goal
 
@@ -44,5 +45,5 @@ returns-clause-resumed c =
     let onward = c.in_ok-onward.onward in
     let names = last_table (λ n. said n) x.calls.items c.last.result (c.last.ensures.value ∙ ap (λ xs. slice_get xs (length xs - 1)) c.deref.ensures.value) in
     let seen = subst (λ n. onward_seen x.lines n onward ≡ behind (next_of x.lines n c.args.following)) names c.in_ok-onward.ensures in
-    let is = ap (part_of (rest_of x).depth (state_of x)) seen ∙ sym (resumed_is (rest_of x).depth (next_of x.lines (innermost (tables_in x)) c.args.following) (state_of x)) in
+    let is = ap (onward_part (rest_of x).depth (state_of x)) seen in
     subst (λ p. Resumes c.go_with.result (rest_of c.go_with.new.self) (moved (rest_of x).depth (rest_of x).around p)) is c.go_with.ensures.gone

@@ -5,9 +5,10 @@ use Rattle.asm_text.specs.Sections.Onward.{branch}
 use Rattle.asm_text.specs.Sections.Sections.{branches_seen}
 use Rattle.asm_text.specs.Sections.Views.{onward_seen}
 use Rattle.asm_macro.specs.Private.Frames.{innermost}
-use Rattle.asm_macro.specs.Private.Going.{Fits, part_of, turns_opened}
+use Rattle.asm_macro.specs.Parts.{onward_part}
+use Rattle.asm_macro.specs.Private.Going.{Fits, turns_opened}
 use Rattle.asm_macro.specs.Private.Moves.{Resumes, moved, rest_of, state_of, tables_in}
-use Rattle.asm_macro.proofs.Onwards.{branch_opens, chosen_is, fits_branch, one_text}
+use Rattle.asm_macro.proofs.Onwards.{branch_opens, fits_branch, one_text}
 use Rattle.asm_macro.proofs.Stacks.{last_table, so_ok}
 use Rattle.asm_macro.proofs.expansion.Expansion.go_in.Goals as goal
 
@@ -41,5 +42,5 @@ returns-clause-chosen c =
     let onward = c.in_ok-onward.onward in
     let names = last_table (λ n. said n) x.calls.items c.last.result (c.last.ensures.value ∙ ap (λ xs. slice_get xs (length xs - 1)) c.deref.ensures.value) in
     let seen = subst (λ n. onward_seen x.lines n onward ≡ branch c.args.value (branches_seen x.lines n c.args.choice)) names c.in_ok-onward.ensures in
-    let is = ap (part_of (rest_of x).depth (state_of x)) seen ∙ sym (chosen_is c.args.value (rest_of x).depth (state_of x) (branches_seen x.lines (innermost (tables_in x)) c.args.choice)) in
+    let is = ap (onward_part (rest_of x).depth (state_of x)) seen in
     subst (λ p. Resumes c.go_with.result (rest_of c.go_with.new.self) (moved (rest_of x).depth (rest_of x).around p)) is c.go_with.ensures.gone

@@ -3,7 +3,7 @@ use Rattle.std.proofs.lemmas.Result.{err_from_is_err_and}
 use Rattle.asm_text.specs.Spans.{text_of}
 use Rattle.asm_text.specs.Sections.Views.{onward_seen}
 use Rattle.asm_macro.specs.Private.Frames.{innermost}
-use Rattle.asm_macro.specs.Private.Going.{part_of}
+use Rattle.asm_macro.specs.Parts.{onward_part}
 use Rattle.asm_macro.specs.Private.Moves.{Resumes, moved, rest_of, state_of, tables_in}
 use Rattle.asm_macro.proofs.Turned.{fits_into, gone_into, sound_into, stopped_into}
 use Rattle.asm_macro.proofs.expansion.Expansion.go_with.Goals as goal
@@ -17,7 +17,7 @@ returns-in_err-count_turn-in-Into-clause-gone c =
     let depth = (rest_of x).depth in
     let why = c.in_err-count_turn-in-Into.field-0.0 in
     let p = err_from_is_err_and c.from_residual.result c.from_residual.ensures.1 in
-    rw (p.1, p.2) (subst (λ o. Resumes (Err why) (rest_of y) (moved depth (rest_of x).around (part_of depth (state_of x) (onward_seen texts names o)))) (sym c.in-Into.is)
+    rw (p.1, p.2) (subst (λ o. Resumes (Err why) (rest_of y) (moved depth (rest_of x).around (onward_part depth (state_of x) (onward_seen texts names o)))) (sym c.in-Into.is)
     (stopped_into (rest_of y) depth (rest_of x).around why _ _ _ _ _ (c.in_err-count_turn-in-Into.ensures.enters texts names depth (text_of texts names c.in-Into.text))))
 
 pub returns-in_ok-push-in-Into-clause-sound : goal.returns-in_ok-push-in-Into-clause-sound
@@ -38,6 +38,6 @@ returns-in_ok-push-in-Into-clause-gone c =
     let counted = c.in_ok-count_turn-in-Into.ensures in
     let many = length x.calls.items + x.turns in
     let fits = fits_into many texts names c.args.onward c.in-Into.text c.in-Into.following c.in-Into.is c.requires.fits in
-    ap (λ o. moved depth (rest_of x).around (part_of depth (state_of x) (onward_seen texts names o))) c.in-Into.is
+    ap (λ o. moved depth (rest_of x).around (onward_part depth (state_of x) (onward_seen texts names o))) c.in-Into.is
     ∙ ap (moved depth (rest_of x).around) (counted.enters texts names depth (text_of texts names c.in-Into.text))
     ∙ gone_into x c.count_turn.new.self c.push.new.self.items c.in-Into.following c.in-Into.text many c.requires.sound fits counted.counted c.in_ok-push-in-Into.ensures.items
