@@ -139,5 +139,12 @@ pub fn statement(alloc: Global, tokens: &[Token<'_>]) -> Result<Line, StmtFault>
     ensures spelled { Gives line_of result (spelled (lexemes tokens.entry.now)) }
     ensures faults { IfErr result IsOfTokens }
 {
-    read(alloc, tokens)
+    match tokens {
+        // A third of the lines of many sources are empty or only comments.
+        [] => Ok(Line::Statement {
+            label: None,
+            body: None,
+        }),
+        _ => read(alloc, tokens),
+    }
 }
