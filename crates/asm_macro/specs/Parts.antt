@@ -22,19 +22,22 @@ use Rattle.asm_text.specs.Sections.Onward.{Next, Rest, BehindFirst, BehindSecond
 use Rattle.asm_macro.specs.Faults.{fault_of_scan}
 use Rattle.asm_macro.specs.Judged.{parameters, line_fault}
 
+-- What a line leads to. A line that is given is one of the expansion.
 pub data ExpansionPart : Type 0 where
-  -- these lines are given, and then expansion stops with an error at the line with this number
+  -- these lines are given, and then expansion stops with an error at the line with this number, from 1
   Stop : List Numbered → ℕ → MacroFault → ExpansionPart
   -- this line is given, and is the last one
   Last : Numbered → ExpansionPart
-  -- these lines are given, and then the lines that follow are expanded
+  -- these lines are given, and then, in this state, the lines that follow are expanded
   Go : List Numbered → State → List Numbered → ExpansionPart
-  -- these lines are given; then other lines are expanded, at some depth; and then expansion continues with what follows those
+  -- these lines are given; then, in this state and at this depth of calls and repetitions, other lines are expanded; and then expansion
+  -- continues with what follows those
   Within : List Numbered → State → ℕ → List Numbered → Next → ExpansionPart
 
 abbrev pub fails : Numbered → MacroFault → ExpansionPart
 fails l why = Stop [] l.number why
 
+-- the part, unless a line that closes a block has something else in it
 abbrev pub closing : Numbered → ExpansionPart → ExpansionPart
 closing l part = if is_alone (form_of l.text) then part else fails l MacroFault.Stray
 
@@ -53,7 +56,7 @@ onward_part depth e (Stray number) = Stop [] number MacroFault.Stray
 onward_part depth e (On text) = Go [] e text
 onward_part depth e (Into text next) = into depth e text next
 
--- an error if as many calls and repetitions as allowed are open
+-- an error if as many calls and repetitions as allowed are open; also for a REPT 0, which repeats nothing
 abbrev pub unless_deep : ℕ → Numbered → ExpansionPart → ExpansionPart
 unless_deep depth l part = if nat_le MOST_NESTED depth then fails l MacroFault.TooDeep else part
 
@@ -61,7 +64,7 @@ unless_deep depth l part = if nat_le MOST_NESTED depth then fails l MacroFault.T
 abbrev pub resumed : ℕ → Next → State → ExpansionPart
 resumed depth next e = onward_part depth e (behind next)
 
--- REPT and IF, given the value of their expression.
+-- REPT and IF, given the value of their expression. (A block that nothing closes is refused before, by `line_fault`.)
 abbrev pub repeated : ℕ → State → Numbered → Option BlockBody → Result ℕ MacroFault → ExpansionPart
 repeated depth e l (Some body) (Ok n) = unless_deep depth l (onward_part depth e (turns n l.number body))
 repeated depth e l (Some body) (Err fault) = fails l fault
@@ -82,7 +85,8 @@ definition e l name (Some some) (Some body) =
 definition e l name None body = fails l MacroFault.Stray
 definition e l name (Some some) None = fails l MacroFault.Unclosed
 
--- `name EQU`: if several lines define a name, the first one that has a value counts
+-- `name EQU`: if several lines define a name, the first one that has a value counts. An expression without a value here is no error: it may
+-- use labels, and is judged later.
 abbrev pub learned : List ℕ → State → Result ℕ MacroFault → State
 learned name e (Ok n) = with_constant (upper name) n e
 learned name e (Err fault) = e
@@ -90,8 +94,8 @@ learned name e (Err fault) = e
 abbrev pub equ_part : State → Numbered → List ℕ → List Lexeme → List Numbered → ExpansionPart
 equ_part e l name tokens rest = Go (l ∷ []) (if is_constant e (upper name) then e else learned name e (value_of_tokens (constant_table e) tokens)) rest
 
--- A call: its label is given, and then the body is expanded with its names replaced, each LOCAL name by the next number. If a LOCAL line of
--- the body is malformed, the label is given and then expansion stops.
+-- A call: its label is given, and then the body is expanded with its parameters replaced by the arguments, and each LOCAL name by the next of
+-- ??00000, ??00001 and so on. If a LOCAL line of the body is malformed, the label is given and then expansion stops.
 abbrev pub call_part : ℕ → State → Numbered → Form → List Lexeme → List Numbered → Macro → Option Opened → ExpansionPart
 call_part depth e l form tokens rest m (Some body) =
     Within (label_lines form.label l tokens) (record e { counter = e.counter + length body.locals }) (depth + 1)

@@ -1,4 +1,5 @@
 -- What `assemble_with` and the like answer for a source.
+-- In words: docs/LANGUAGE.md, section 'Modules', and docs/FAULTS.md for the order of errors.
 use Rattle.std.specs.Prelude.{◌≡◌, ◌≢◌, ℕ, Bool, false, List, Option, Some, None, Result, Ok, Err, length}
 use Rattle.asm_names.specs.Circles.{TellsCircles}
 use Rattle.asm_macro.specs.declared.fault.MacroFault.{MacroFault}
@@ -17,7 +18,7 @@ use Rattle.asm_module.specs.declared.fault.Why.{Why}
 use Rattle.asm_module.specs.Source.{first_pass, module_by, source_fault, statement_lines}
 use Rattle.asm_module.specs.Whys.{macro_why}
 
--- a module, the number of the line of each of its statements, and the number of the last line that the listing shows
+-- a module; for each of its statements, the number of its line in the source, from 1; and the number of the last line that the listing shows
 pub record Assembled : Type 0 where
   pub holds : Module
   pub each : List ℕ
@@ -37,7 +38,8 @@ assembled name grow count circle (Ok lines) = answer (source_fault grow lines ci
   last = last_listed count (taken lines);
 })
 
--- `circle` says of each line, by its index from 0, whether its EQU leads back to itself. (If the first pass finds an error, no EQU counts.)
+-- `circle` says of each line, by its index from 0, whether its EQU leads back to itself. If the first pass finds an error, it is not used and
+-- may be anything.
 abbrev pub TellsLines : (ℕ → Bool) → Result (List Numbered) (ℕ × MacroFault) → Type 0
 TellsLines circle (Ok lines) = first_pass lines ≡ None → TellsCircles (names (taken lines)) (taken lines) circle
 TellsLines circle (Err stop) = Unit {0}
@@ -48,7 +50,7 @@ Assembles name text grow result =
     (expanded : Result (List Numbered) (ℕ × MacroFault)) × IsExpanded text expanded × (circle : ℕ → Bool) × TellsLines circle expanded
     × (assembled name grow (length (source_lines text)) circle expanded ≡ result)
 
--- An answer has a cause in the source if it is not that memory ran out.
+-- The answer is not that memory ran out, so its cause is in the source.
 abbrev pub HasCause : Result Assembled AsmFault → Type 0
 HasCause (Ok whole) = Unit {0}
 HasCause (Err fault) = fault.why ≢ Why.NoMemory
@@ -57,7 +59,8 @@ HasCause (Err fault) = fault.why ≢ Why.NoMemory
 abbrev pub assembled_of : whole.Module × listing.Lines → Assembled
 assembled_of (m, lines) = record { holds = module_of m; each = lines.each.items; last = lines.last }
 
--- why a source is refused: its first error; if memory ran out, nothing is claimed
+-- why a source is refused: its first error; if memory ran out, nothing is claimed (`why` is that of the fault, given by itself to tell the two
+-- apart)
 abbrev pub IsRefused : Why → List ℕ → List ℕ → Bool → AsmFault → Type 0
 IsRefused Why.NoMemory name text grow fault = Unit {0}
 IsRefused why name text grow fault = Assembles name text grow (Err fault)
@@ -67,7 +70,7 @@ abbrev pub IsAssembled : List ℕ → List ℕ → Bool → Result (whole.Module
 IsAssembled name text grow (Ok m) = Assembles name text grow (Ok (assembled_of m))
 IsAssembled name text grow (Err fault) = IsRefused fault.why name text grow fault
 
--- what `assemble` answers: the same without `grow`, and without the lines of statements
+-- what `assemble` answers: the same without --grow, and without any line numbers
 abbrev pub IsAssembledModule : List ℕ → List ℕ → Result whole.Module AsmFault → Type 0
 IsAssembledModule name text (Ok m) = (each : List ℕ) × (last : ℕ) × Assembles name text false (Ok (record { holds = module_of m; each = each; last = last }))
 IsAssembledModule name text (Err fault) = IsRefused fault.why name text false fault

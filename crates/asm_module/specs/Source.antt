@@ -26,8 +26,8 @@ use Rattle.asm_module.specs.Whys.{equ_why, line_why, name_why, state_why}
 abbrev pub fault_on_line : {A : Type 0} → (A → Why) → Option (ℕ × A) → Option AsmFault
 fault_on_line view fault = option_map (λ f. record { line = f.0; why = view f.1 }) fault
 
--- What the first pass over the lines finds: the first line that may not define its name, or with which the source has too many statements
--- or names; if there is none, the first line that cannot be parsed.
+-- What the first pass over the lines of the expansion finds: of the lines before the first that cannot be parsed, the first that may not
+-- define its name, or with which the source has too many statements or names; otherwise the first line that cannot be parsed.
 abbrev pub first_pass : List Numbered → Option AsmFault
 first_pass lines = first (fault_on_line name_why (defined.first_name_fault (taken lines)) ∷ fault_on_line line_why (unread lines) ∷ [])
 
@@ -44,7 +44,7 @@ abbrev pub source_fault : Bool → List Numbered → (ℕ → Bool) → Option A
 source_fault grow lines circle =
     first (first_pass lines ∷ first_equ_line_fault (taken lines) circle (layout grow (taken lines) circle) ∷ state_fault (taken lines) circle (layout grow (taken lines) circle) ∷ [])
 
--- The module of lines without an error. Its name is the one given, cut after 255 bytes.
+-- The module of lines without an error. Its name is the one given, cut after 255 bytes; it `begins` the program if it has an ORG.
 abbrev pub module_by : List ℕ → Bool → List Taken → (ℕ → Bool) → Layout → Module
 module_by name grow lines circle layout = record {
   name = take LONGEST_NAME name;
@@ -57,6 +57,6 @@ module_by name grow lines circle layout = record {
   externals = externals (names lines);
 }
 
--- the line of each statement
+-- for each statement, the number of its line in the source, from 1
 abbrev pub statement_lines : Bool → List Taken → (ℕ → Bool) → Layout → List ℕ
 statement_lines grow lines circle layout = map (λ n. n.0) (numbered_statements grow (source_table lines circle layout) layout lines)

@@ -1,6 +1,6 @@
 -- The value of an expression of a source, level by level: a name that EQU defines has the value of the expression in its own line, and so on
--- for the names in that one. Nothing is replaced or computed beforehand. The law `laws::level_by_level` says that the names of a source stand
--- for these values.
+-- for the names in that one. Nothing is replaced or computed beforehand. A name on a circle of EQU lines has no value. The law
+-- `laws::level_by_level` says that the names of a source stand for these values, where they have one.
 -- In words: docs/LANGUAGE.md, sections 'EQU' and 'Expressions'.
 use Rattle.std.specs.Prelude.{◌≡◌, ℕ, ◌%◌, List, Some}
 use Rattle.asm_parse.specs.declared.operator.Unary.{Unary}
@@ -15,7 +15,9 @@ use Rattle.asm_names.specs.Lines.{Taken}
 use Rattle.asm_names.specs.Meanings.{external_ref}
 use Rattle.asm_names.specs.Names.{Names, kind_of_name}
 
--- An expression in line `at` has this value, given the address of each ref: of each statement, of the end, and of each external.
+-- An expression in the line with index `at`, from 0, has this value. `places` gives the address of each ref: of each statement, of the end, and
+-- of each external. `layout` says for each line which statement is the first in it or after it. Addresses count modulo 65,536, and so does
+-- what operators make; a number in a source is below that.
 pub data HasValue (names : Names) (lines : List Taken) (layout : Layout) (places : ℕ → ℕ) : ℕ → Expression Operand → ℕ → Type 0 where
   -- a number is its own value
   number : {at n : ℕ} → HasValue names lines layout places at (Leaf (Number n)) n

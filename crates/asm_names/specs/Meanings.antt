@@ -1,4 +1,5 @@
--- What the names of a source stand for, whatever the order of its lines, and which errors EQU lines have.
+-- What the names of a source stand for, whatever the order of its lines, and which errors EQU lines have. `circle` says of each line, by its
+-- index from 0, whether its EQU leads back to itself.
 -- In words: docs/LANGUAGE.md, section 'EQU'.
 use Rattle.std.specs.Prelude.{ℕ, zero, suc, ◌+◌, Bool, List, [], ◌∷◌, Option, Some, None, Result, Ok, Err, map, length, is_none}
 use Rattle.std.specs.Option.{option_map, unwrap_or}
@@ -22,7 +23,7 @@ use Rattle.asm_names.specs.Layout.{Layout, next_at}
 abbrev pub Entries : Type 0
 Entries = List (List ℕ × Meaning)
 
--- what names and `$` stand for in line `at`
+-- what names and `$` stand for in the line with index `at`, from 0
 abbrev pub table_at : Layout → Entries → ℕ → Table
 table_at layout entries at = record { entries = entries; here = next_at layout at; statements = layout.statements }
 
@@ -36,7 +37,7 @@ undefined names e = if_so EquFault.Undefined (list_any (λ name. is_none (kind_o
 abbrev pub circular : (ℕ → Bool) → ℕ → Option EquFault
 circular circle at = if_so EquFault.EquCircle (circle at)
 
--- the error of an expression that has no value
+-- the error with which an expression is refused, if it is
 abbrev pub expression_fault_of : {A : Type 0} → Result A ExprFault → Option EquFault
 expression_fault_of (Ok what) = None
 expression_fault_of (Err why) = Some (EquFault.Expr why)
@@ -67,7 +68,8 @@ external_in _ = None
 abbrev pub externals : Names → List (List ℕ)
 externals names = filter_map external_in names
 
--- the ref of an external: externals are numbered after the statements and their end
+-- the ref of an external: of S statements, those are refs 0 to S - 1, their end is S, and the first external is S + 1 (`unwrap_or` never needs
+-- its 0, since the name is an external)
 abbrev pub external_ref : Names → Layout → List ℕ → ℕ
 external_ref names layout name = (length layout.statements + 1) + unwrap_or (position_from (bytes_eq name) 0 (externals names)) 0
 
@@ -83,8 +85,8 @@ abbrev pub after_rounds : ℕ → Names → List Taken → (ℕ → Bool) → La
 after_rounds zero names lines circle layout = map (λ d. (d.0, Meaning.Faulty)) names
 after_rounds (suc n) names lines circle layout = map (λ d. (d.0, meaning names lines circle layout (after_rounds n names lines circle layout) d.0 d.1)) names
 
--- What names stand for: what is known after one round more than there are lines. Further rounds change nothing, since lines on a
--- circle never get a value.
+-- What names stand for: what is known after one round more than there are lines. Further rounds change nothing: each settles one more level
+-- of names, without a circle there are no more levels than lines, and lines on a circle never get a value.
 abbrev pub name_meanings : Names → List Taken → (ℕ → Bool) → Layout → Entries
 name_meanings names lines circle layout = after_rounds (suc (length lines)) names lines circle layout
 
@@ -94,7 +96,7 @@ abbrev pub equ_line_fault : Names → (ℕ → Bool) → Layout → Entries → 
 equ_line_fault names circle layout known at (Equ name e) = equ_fault names circle (table_at layout known at) at e
 equ_line_fault names circle layout known at _ = None
 
--- The first error of the EQU lines, in their order, with the number of its line.
+-- The first error of the EQU lines, in their order, with the number of its line in the source, from 1.
 abbrev pub first_equ_fault : Names → List Taken → (ℕ → Bool) → Layout → Option (ℕ × EquFault)
 first_equ_fault names lines circle layout =
     first (map (λ l. option_map (λ why. (l.1.number, why)) (equ_line_fault names circle layout (name_meanings names lines circle layout) l.0 l.1.line)) (placed lines))

@@ -13,7 +13,7 @@ abbrev pub written : Width → ℕ → List ℕ
 written Width.Byte n = n % 256 ∷ []
 written Width.Word n = word n
 
--- what the field has in the object file: its value, or 0 if the value depends on addresses
+-- what the field has in the object file: its value, or 0 if the value depends on addresses or is not known
 abbrev pub number_or_0 : Filling → ℕ
 number_or_0 (Filling.Number n) = n
 number_or_0 _ = 0
@@ -24,7 +24,7 @@ cell_bytes c = written c.width (number_or_0 c.filling)
 abbrev pub bytes : List Cell → List ℕ
 bytes cells = flat_map cell_bytes cells
 
--- the fix-up of a field whose value depends on addresses, at this offset
+-- the fix-up of a field whose value depends on addresses, at this offset from the first byte of the statement
 abbrev pub hole : ℕ → Width → Filling → List Hole
 hole at width (Filling.Varying e) = (record { offset = at; width = width; value = e }) ∷ []
 hole at width _ = []

@@ -1,5 +1,5 @@
 -- What a statement gives its object file once its names are replaced, or the first error of its values.
--- In words: docs/LANGUAGE.md, section 'Directives'.
+-- In words: docs/LANGUAGE.md, sections 'Instructions', 'Directives', 'Jumps' and 'What is known when'.
 use Rattle.std.specs.Prelude.{◌≢◌, ℕ, zero, suc, ◌-◌, ◌%◌, ◌==◌, ◌&&◌, Bool, false, List, [], ◌∷◌, Option, Some, None, Result, Ok, Err, if◌then◌else◌, All, length, map}
 use Rattle.std.specs.List.{AllPass, flat_map, list_all}
 use Rattle.std.specs.Option.{IfSome}
@@ -93,7 +93,7 @@ number_filled t n = field_filling t n.0 n.1 >>= λ f. Ok (n.0, f)
 abbrev pub fillings : Table → List (Field × ExpressionItems) → Result Fillings StmtFault
 fillings t numbers = each (number_filled t) numbers
 
--- how many bytes a number takes, if its value may depend on addresses
+-- how many bytes a field takes whose value may depend on addresses (those of other kinds are fixed numbers)
 abbrev pub field_width : Field → Width
 field_width Field.Word = Width.Word
 field_width field = Width.Byte
@@ -131,7 +131,7 @@ ref_of (Some (Meaning.Label r)) = Some r
 ref_of (Some (Meaning.External r)) = Some r
 ref_of _ = None
 
--- If the target of a JP is not a label or an external but a name that EQU defines, the jump keeps its three bytes.
+-- A JP to a label or an external may be short or long. One to a name that EQU defines keeps its three bytes.
 abbrev pub jump_by : Option ℕ → Table → Option ShortCond → List ℕ → Result Made StmtFault
 jump_by (Some r) t condition target = Ok (Some_piece (Jump condition r))
 jump_by None t condition target = code t (long_jump condition 0) ((Field.Word, Item.Leaf (Name target) ∷ []) ∷ [])
@@ -168,7 +168,7 @@ number_in (Settled.Unknown what) = None
 abbrev pub space_made : Table → ExpressionItems → Option ExpressionItems → Result Made StmtFault
 space_made t size fill = space_size t size >>= λ s. space_fill t fill >>= λ f. Ok (space_of_size (number_in s) f)
 
--- An ORG has to be 0100H and come before any statement. If its number is not known, because another line has an error, that may be so.
+-- An ORG has to be 0100H and come before any statement. If its number is not known, because another line has an error, it is accepted.
 abbrev pub origin_by : Option ℕ → Bool
 origin_by (Some n) = n == FIRST_PLACE
 origin_by None = false
@@ -182,6 +182,7 @@ origin t e = settled_in t e >>= λ s. if (t.here == 0) && is_origin s then Ok No
 
 -- Statements of any kind.
 
+-- What a statement makes; PUBLIC, EXTRN, END and .Z80 make nothing. Its names are defined (`AreDefined`), or it has an error already.
 abbrev pub made : Table → Body → Result Made StmtFault
 made t (line.Code instr numbers) = code t instr numbers
 made t (line.Jump condition target) = jump_by (ref_of (found t target)) t condition target

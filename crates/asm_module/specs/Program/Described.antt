@@ -1,5 +1,6 @@
--- The program that lines, or a source, describe, and when the statements of a module are those of this program.
--- In words: docs/LANGUAGE.md, section 'Modules'.
+-- The program that lines, or a source, describe, and when the statements of a module are those of this program. This says something of lines
+-- without an error: those from the first line on that cannot be parsed are left out.
+-- In words: docs/LANGUAGE.md, sections 'Instructions', 'Directives' and 'Jumps'.
 use Rattle.std.specs.Prelude.{◌≡◌, ℕ, Bool, List, Ok}
 use Rattle.asm_names.specs.Circles.{TellsCircles}
 use Rattle.asm_names.specs.Lines.{Taken}
@@ -12,7 +13,8 @@ use Rattle.asm_module.specs.Reads.Read.{taken}
 use Rattle.asm_module.specs.Program.Lines.{AreAt, program_of_lines}
 use Rattle.asm_module.specs.Program.Statement.{Statement}
 
--- This is the program that the lines describe, once their names are settled.
+-- This is the program that the lines describe, once their names are settled. `circle` says of each line, by its index from 0, whether its EQU
+-- leads back to itself.
 abbrev pub IsProgramOfLines : Bool → List Taken → List Statement → Type 0
 IsProgramOfLines grow lines p =
     (circle : ℕ → Bool) × TellsCircles (names lines) lines circle
@@ -22,8 +24,8 @@ IsProgramOfLines grow lines p =
 abbrev pub IsProgramOfSource : List ℕ → Bool → List Statement → Type 0
 IsProgramOfSource text grow p = (lines : List Numbered) × IsExpanded text (Ok lines) × IsProgramOfLines grow (taken lines) p
 
--- The statements are those that the lines describe: they have the same sizes, jumps go to the same refs, and the bytes linked from them at
--- any addresses, short or long, are what the lines describe there.
+-- The statements are those that the lines describe: they have the same sizes, jumps go to the same refs, and at all addresses that agree with
+-- the known sizes, the bytes linked from them, short or long, are what the lines describe there.
 abbrev pub AreOfLines : Bool → List Taken → List ModuleStatement → Type 0
 AreOfLines grow lines statements = (p : List Statement) × IsProgramOfLines grow lines p × AreAt statements p
 

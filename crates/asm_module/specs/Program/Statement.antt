@@ -1,5 +1,5 @@
 -- What a parsed line describes in a program, if no error is found in it.
--- In words: docs/LANGUAGE.md, section 'Directives'.
+-- In words: docs/LANGUAGE.md, sections 'Instructions', 'Directives' and 'Jumps'.
 use Rattle.std.specs.Prelude.{ℕ, Bool, true, zero, suc, ◌%◌, List, [], ◌∷◌, Option, Some, None, map}
 use Rattle.std.specs.List.{flat_map}
 use Rattle.asm_parse.specs.declared.item.Item.{Item}
@@ -39,12 +39,12 @@ target_of (Jump condition target) = Some target
 target_of (Short branch target) = Some target
 target_of _ = None
 
--- An expression with its names replaced by what they stand for. If a name has no value, which never happens in a statement without an
--- error, it counts as 0.
+-- what EQU makes of an expression; 0 fills a case that never occurs, since in a statement without an error each name has a value
 abbrev pub of_settled : Settled → Expression Atom
 of_settled (Settled.Known items) = tree items
 of_settled (Settled.Unknown what) = Leaf (Atom.Number 0)
 
+-- what a name stands for; 0 fills such cases here too
 abbrev pub meant_expression : Option Meaning → Expression Atom
 meant_expression (Some (Meaning.Label r)) = Leaf (Atom.Ref r)
 meant_expression (Some (Meaning.External r)) = Leaf (Atom.Ref r)
@@ -52,6 +52,7 @@ meant_expression (Some (Meaning.Constant n)) = Leaf (Atom.Number n)
 meant_expression (Some (Meaning.Equ equated)) = of_settled equated.settled
 meant_expression _ = Leaf (Atom.Number 0)
 
+-- an expression with its names replaced by what they stand for
 abbrev pub with_meant : Table → Expression Operand → Expression Atom
 with_meant t (Leaf (Number n)) = Leaf (Atom.Number n)
 with_meant t (Leaf (Name name)) = meant_expression (found t name)
@@ -84,7 +85,7 @@ abbrev pub jump_statement : Option ℕ → Table → Option ShortCond → List �
 jump_statement (Some r) t condition target = Jump condition r
 jump_statement None t condition target = Code (long_jump condition 0) ((Field.Word, replaced_expression t (Item.Leaf (Name target) ∷ [])) ∷ [])
 
--- JR and DJNZ to a name. With --grow a JR is relaxable, as a JP is.
+-- JR and DJNZ to a name. With --grow a JR is relaxable, as a JP is. To a name that is not a label nor an external it is an error.
 abbrev pub short_statement : Bool → Option ℕ → Branch → Option Statement
 short_statement true (Some r) (Branch.Relative condition) = Some (Jump condition r)
 short_statement grow (Some r) branch = Some (Short branch r)
@@ -107,6 +108,7 @@ abbrev pub spaced : ℕ → ℕ → Option Statement
 spaced zero fill = None
 spaced (suc n) fill = Some (Space (suc n) fill)
 
+-- the statement of a line; None for PUBLIC, EXTRN, ORG, END and .Z80, which are none
 abbrev pub stated : Bool → Table → line.Body → Option Statement
 stated grow t (line.Code instr numbers) = Some (Code instr (map (λ n. (n.0, filling t n.0 n.1)) numbers))
 stated grow t (line.Jump condition target) = Some (jump_statement (ref_of (found t target)) t condition target)

@@ -1,4 +1,4 @@
--- The blocks that begin with the first of some lines: what is in them, and what comes after them.
+-- The body or the branches of a block, given the lines after its MACRO, REPT or IF line; and the lines after the block.
 -- In words: docs/LANGUAGE.md, section 'REPT and IF'.
 use Rattle.std.specs.Prelude.{ℕ, ◌+◌, List, [], ◌∷◌, Option, map, take, drop, slice_index_or, sum}
 use Rattle.std.specs.Option.{option_map}
@@ -6,7 +6,7 @@ use Rattle.asm_text.specs.Nesting.Blocks.{Lengths, body_length, branch_lengths}
 use Rattle.asm_text.specs.Lines.{Numbered}
 use Rattle.asm_text.specs.Roles.{roles}
 
--- some lines, and the line after them that ends them
+-- some lines, and the ELSE, ENDIF or ENDM after them
 pub record Section : Type 0 where
   pub lines : List Numbered
   pub end : Numbered
