@@ -34,11 +34,11 @@ use Rattle.asm_spell.specs.Line as line
 use Rattle.asm_spell.specs.Line.{Body, ExpressionItems, Value}
 use Rattle.asm_stmt.specs.declared.cell.Cell.{Cell}
 use Rattle.asm_stmt.specs.declared.cell.Filling.{Filling}
-use Rattle.asm_stmt.specs.Cells.{all_told, bytes, holes, is_told}
+use Rattle.asm_stmt.specs.Cells.{all_filled, bytes, holes, is_filled}
 use Rattle.asm_stmt.specs.Fields as field
 use Rattle.asm_stmt.specs.Fields.{byte, byte_by, distance_or, field_filling, fixed, fixed_by, from_end, settled_in, word_filling, word_filling_by}
 use Rattle.asm_stmt.specs.Made as made
-use Rattle.asm_stmt.specs.Made.{AreDefined, Fillings, IsDefined, Made, Piece, Unknown, ValueDefined, all_laid, code, coded, fillings, jump_by, laid_cells, long_jump, number_filled, number_in, ref_of, short_by, space_of_size, space_fill, text_cell, value_cells, word_cells}
+use Rattle.asm_stmt.specs.Made.{AreDefined, Fillings, IsDefined, Made, Piece, Unknown, ValueDefined, items_made, code, coded, fillings, jump_by, cells_made, long_jump, number_filled, number_in, ref_of, short_by, space_of_size, space_fill, text_cell, value_cells, word_cells}
 use Rattle.asm_stmt.proofs.Making.{as_stmt_ok, bind_ok, chosen_ok, each_holds, flat, origin_nothing, space_made}
 use Rattle.asm_module.proofs.Layouts.Sizing.{ConstantsAreNumbers, NumbersSettle, both_pass, source_passes, space_number}
 
@@ -67,19 +67,19 @@ number_item t (Item.Unary op) valued constant = refl
 number_item t (Item.Binary op) valued constant = refl
 
 -- Fields.
-byte_told : (s : Settled) (f : Filling) → is_value s ≡ true → byte s ≡ Ok f → is_told f ≡ true
+byte_told : (s : Settled) (f : Filling) → is_value s ≡ true → byte s ≡ Ok f → is_filled f ≡ true
 byte_told (Settled.Unknown what) f value is = absurd cc
 byte_told (Settled.Known items) f value is = by (field.number items) is
   where
-    by : (o : Option ℕ) → byte_by o items ≡ Ok f → is_told f ≡ true
-    by (Some n) is = ap is_told (sym (chosen_ok (allows Field.Byte n) (Filling.Number n) f StmtFault.ByteRange is).1)
-    by None is = ap is_told (sym (chosen_ok (ends_in_byte items) (Filling.Varying items) f StmtFault.NeedsLowOrHigh is).1)
+    by : (o : Option ℕ) → byte_by o items ≡ Ok f → is_filled f ≡ true
+    by (Some n) is = ap is_filled (sym (chosen_ok (allows Field.Byte n) (Filling.Number n) f StmtFault.ByteRange is).1)
+    by None is = ap is_filled (sym (chosen_ok (ends_in_byte items) (Filling.Varying items) f StmtFault.NeedsLowOrHigh is).1)
 
-word_told : (s : Settled) → is_value s ≡ true → is_told (word_filling s) ≡ true
+word_told : (s : Settled) → is_value s ≡ true → is_filled (word_filling s) ≡ true
 word_told (Settled.Unknown what) value = absurd cc
 word_told (Settled.Known items) value = by (field.number items)
   where
-    by : (o : Option ℕ) → is_told (word_filling_by o items) ≡ true
+    by : (o : Option ℕ) → is_filled (word_filling_by o items) ≡ true
     by (Some n) = refl
     by None = refl
 
@@ -91,13 +91,13 @@ fixed_number kind (Settled.Known items) f value is = by (field.number items) is
     by (Some n) is = (n, (chosen_ok (allows kind n) (Filling.Number n) f StmtFault.ByteRange is).1)
     by None is = absurd cc
 
-fixed_told : (kind : Field) (s : Settled) (f : Filling) → is_value s ≡ true → fixed kind s ≡ Ok f → is_told f ≡ true
-fixed_told kind s f value is = ap is_told (sym (fixed_number kind s f value is).1)
+fixed_told : (kind : Field) (s : Settled) (f : Filling) → is_value s ≡ true → fixed kind s ≡ Ok f → is_filled f ≡ true
+fixed_told kind s f value is = ap is_filled (sym (fixed_number kind s f value is).1)
 
-distance_told : (o : Offset) (f : Option ExprFault) (x : Filling) → (o ≡ Offset.Unknown → ⊥) → distance_or f o ≡ Ok x → is_told x ≡ true
+distance_told : (o : Offset) (f : Option ExprFault) (x : Filling) → (o ≡ Offset.Unknown → ⊥) → distance_or f o ≡ Ok x → is_filled x ≡ true
 distance_told Offset.Other f x known is = absurd cc
 distance_told (Offset.Number n) (Some why) x known is = absurd cc
-distance_told (Offset.Number n) None x known is = ap is_told (sym (chosen_ok (allows Field.Distance (from_end n)) (Filling.Number (from_end n)) x StmtFault.ByteRange is).1)
+distance_told (Offset.Number n) None x known is = ap is_filled (sym (chosen_ok (allows Field.Distance (from_end n)) (Filling.Number (from_end n)) x StmtFault.ByteRange is).1)
 distance_told Offset.Unknown f x known is = absurd (known refl)
 distance_told Offset.NotConstant (Some why) x known is = absurd cc
 distance_told Offset.NotConstant None x known is = absurd cc
@@ -149,7 +149,7 @@ module _ (settle : NumbersSettle) (t : Table) (settles : ValuesSettle t) (values
       let s = bind_ok (settled_in t e) (fixed kind) f is in
       fixed_number kind s.0 f (value_in e known s.0 s.1) s.2
 
-  filled_told : (kind : Field) (e : ExpressionItems) (f : Filling) → IsDefined t e → field_filling t kind e ≡ Ok f → is_told f ≡ true
+  filled_told : (kind : Field) (e : ExpressionItems) (f : Filling) → IsDefined t e → field_filling t kind e ≡ Ok f → is_filled f ≡ true
   filled_told Field.Distance e f known is = distance_told (offset t (source_tree e)) (fault t (source_tree e)) f (offset_known t (source_tree e) (valued e known)) is
   filled_told Field.Byte e f known is =
       let s = bind_ok (settled_in t e) byte f is in
@@ -157,61 +157,61 @@ module _ (settle : NumbersSettle) (t : Table) (settles : ValuesSettle t) (values
   filled_told Field.Word e f known is =
       let s = bind_ok (settled_in t e) (λ s. Ok (word_filling s)) f is in
       let same : word_filling s.0 ≡ f = (let r = s.2 in cc) in
-      ap is_told (sym same) ∙ word_told s.0 (value_in e known s.0 s.1)
-  filled_told Field.Displacement e f known is = ap is_told (sym (fixed_in Field.Displacement e f known is).1)
-  filled_told Field.Bit e f known is = ap is_told (sym (fixed_in Field.Bit e f known is).1)
-  filled_told Field.Mode e f known is = ap is_told (sym (fixed_in Field.Mode e f known is).1)
-  filled_told Field.Restart e f known is = ap is_told (sym (fixed_in Field.Restart e f known is).1)
+      ap is_filled (sym same) ∙ word_told s.0 (value_in e known s.0 s.1)
+  filled_told Field.Displacement e f known is = ap is_filled (sym (fixed_in Field.Displacement e f known is).1)
+  filled_told Field.Bit e f known is = ap is_filled (sym (fixed_in Field.Bit e f known is).1)
+  filled_told Field.Mode e f known is = ap is_filled (sym (fixed_in Field.Mode e f known is).1)
+  filled_told Field.Restart e f known is = ap is_filled (sym (fixed_in Field.Restart e f known is).1)
 
   -- DB and DW.
-  cells_told : (width : Width) (kind : Field) (e : ExpressionItems) (cs : List Cell) → IsDefined t e → made.cells t width kind e ≡ Ok cs → all_told cs ≡ true
+  cells_told : (width : Width) (kind : Field) (e : ExpressionItems) (cs : List Cell) → IsDefined t e → made.cells t width kind e ≡ Ok cs → all_filled cs ≡ true
   cells_told width kind e cs known is =
       let f = bind_ok (field_filling t kind e) (λ f. Ok ((record { width = width; filling = f }) ∷ [])) cs is in
       let same : (record { width = width; filling = f.0 }) ∷ [] ≡ cs = (let r = f.2 in cc) in
-      ap all_told (sym same) ∙ ap (λ b. b && true) (filled_told kind e f.0 known f.1)
+      ap all_filled (sym same) ∙ ap (λ b. b && true) (filled_told kind e f.0 known f.1)
 
-  text_told : (text : List ℕ) → all_told (map text_cell text) ≡ true
+  text_told : (text : List ℕ) → all_filled (map text_cell text) ≡ true
   text_told [] = refl
   text_told (b ∷ text) = text_told text
 
-  value_told : (v : Value) (cs : List Cell) → ValueDefined t v → value_cells t v ≡ Ok cs → all_told cs ≡ true
-  value_told (line.Text text) cs known is = (let same : map text_cell text ≡ cs = cc in ap all_told (sym same) ∙ text_told text)
+  value_told : (v : Value) (cs : List Cell) → ValueDefined t v → value_cells t v ≡ Ok cs → all_filled cs ≡ true
+  value_told (line.Text text) cs known is = (let same : map text_cell text ≡ cs = cc in ap all_filled (sym same) ∙ text_told text)
   value_told (line.Byte e) cs known is = cells_told Width.Byte Field.Byte e cs known is
 
-  each_told : {A : Type 0} (P : A → Type 0) (read : A → Result (List Cell) StmtFault) → ((x : A) (cs : List Cell) → P x → read x ≡ Ok cs → all_told cs ≡ true)
-      → (xs : List A) (all : List (List Cell)) → All P xs → each read xs ≡ Ok all → all_told (flat all) ≡ true
+  each_told : {A : Type 0} (P : A → Type 0) (read : A → Result (List Cell) StmtFault) → ((x : A) (cs : List Cell) → P x → read x ≡ Ok cs → all_filled cs ≡ true)
+      → (xs : List A) (all : List (List Cell)) → All P xs → each read xs ≡ Ok all → all_filled (flat all) ≡ true
   each_told P read one xs all known is =
-      each_holds (λ cs ys. All P ys → all_told cs ≡ true) read (λ _. refl)
-      (λ x cs rest ys was so known. list_all-append (λ c. is_told c.filling) cs rest ∙ ap (λ b. b && all_told rest) (one x cs (All-head P x ys known) was) ∙ so (All-tail P x ys known)) xs all is known
+      each_holds (λ cs ys. All P ys → all_filled cs ≡ true) read (λ _. refl)
+      (λ x cs rest ys was so known. list_all-append (λ c. is_filled c.filling) cs rest ∙ ap (λ b. b && all_filled rest) (one x cs (All-head P x ys known) was) ∙ so (All-tail P x ys known)) xs all is known
 
   laid_told : (b : Bool) (p : Piece) → b ≡ true → cond b (made.Some_piece p) Unknown ≡ Unknown → ⊥
   laid_told true p told is = cc
   laid_told false p told is = cc
 
-  data_known : {A : Type 0} (P : A → Type 0) (read : A → Result (List Cell) StmtFault) → ((x : A) (cs : List Cell) → P x → read x ≡ Ok cs → all_told cs ≡ true)
-      → (xs : List A) → All P xs → all_laid (each read xs) ≡ Ok Unknown → ⊥
+  data_known : {A : Type 0} (P : A → Type 0) (read : A → Result (List Cell) StmtFault) → ((x : A) (cs : List Cell) → P x → read x ≡ Ok cs → all_filled cs ≡ true)
+      → (xs : List A) → All P xs → items_made (each read xs) ≡ Ok Unknown → ⊥
   data_known P read one xs known is =
       let all = bind_ok (each read xs) _ Unknown is in
-      let whole : laid_cells (flat all.0) ≡ Unknown = (let r = all.2 in cc) in
-      laid_told (all_told (flat all.0)) (made.Bytes (bytes (flat all.0)) (holes 0 (flat all.0))) (each_told P read one xs all.0 known all.1) whole
+      let whole : cells_made (flat all.0) ≡ Unknown = (let r = all.2 in cc) in
+      laid_told (all_filled (flat all.0)) (made.Bytes (bytes (flat all.0)) (holes 0 (flat all.0))) (each_told P read one xs all.0 known all.1) whole
 
   -- Instructions.
   code_known : (instr : Instr) (ns : List (Field × ExpressionItems)) → All (λ n. IsDefined t n.1) ns → code t instr ns ≡ Ok Unknown → ⊥
   code_known instr ns known is =
       let read = bind_ok (fillings t ns) (λ read. Ok (coded instr read)) Unknown is in
       let whole : coded instr read.0 ≡ Unknown = (let r = read.2 in cc) in
-      laid_told (list_all (λ n. is_told n.1) read.0) _ (fillings_told ns known read.0 read.1) whole
+      laid_told (list_all (λ n. is_filled n.1) read.0) _ (fillings_told ns known read.0 read.1) whole
     where
-      fillings_told : (ms : List (Field × ExpressionItems)) → All (λ n. IsDefined t n.1) ms → (read : Fillings) → fillings t ms ≡ Ok read → list_all (λ n. is_told n.1) read ≡ true
-      fillings_told [] known read is = (let same : [] ≡ read = cc in ap (list_all (λ n. is_told n.1)) (sym same))
+      fillings_told : (ms : List (Field × ExpressionItems)) → All (λ n. IsDefined t n.1) ms → (read : Fillings) → fillings t ms ≡ Ok read → list_all (λ n. is_filled n.1) read ≡ true
+      fillings_told [] known read is = (let same : [] ≡ read = cc in ap (list_all (λ n. is_filled n.1)) (sym same))
       fillings_told (m ∷ ms) known read is =
           let first = bind_ok (number_filled t m) _ read is in
           let rest = bind_ok (each (number_filled t) ms) _ read first.2 in
           let f = bind_ok (field_filling t m.0 m.1) (λ f. Ok (m.0, f)) first.0 first.1 in
           let pair : (m.0, f.0) ≡ first.0 = (let r = f.2 in cc) in
           let same : first.0 ∷ rest.0 ≡ read = (let r = rest.2 in cc) in
-          ap (list_all (λ n. is_told n.1)) (sym same)
-          ∙ ap (λ b. b && list_all (λ n. is_told n.1) rest.0) (ap (λ (n : Field × Filling). is_told n.1) (sym pair) ∙ filled_told m.0 m.1 f.0 (All-head (λ n. IsDefined t n.1) m ms known) f.1)
+          ap (list_all (λ n. is_filled n.1)) (sym same)
+          ∙ ap (λ b. b && list_all (λ n. is_filled n.1) rest.0) (ap (λ (n : Field × Filling). is_filled n.1) (sym pair) ∙ filled_told m.0 m.1 f.0 (All-head (λ n. IsDefined t n.1) m ms known) f.1)
           ∙ fillings_told ms (All-tail (λ n. IsDefined t n.1) m ms known) rest.0 rest.1
 
   -- Jumps.

@@ -14,7 +14,7 @@ use Rattle.z80_form.specs.Numbers.{allows, number_field, with_number, with_numbe
 use Rattle.asm_spell.specs.Faults.{each}
 use Rattle.asm_spell.specs.Line as line
 use Rattle.asm_stmt.specs.declared.cell.Filling.{Filling}
-use Rattle.asm_stmt.specs.Cells.{is_told, number_or_0}
+use Rattle.asm_stmt.specs.Cells.{is_filled, number_or_0}
 use Rattle.asm_stmt.specs.Fields as field
 use Rattle.asm_stmt.specs.Made.{Fillings, code_hole, fillings, number_filled}
 use Rattle.asm_module.specs.Program.Linked.{filled}
@@ -45,7 +45,7 @@ read_none : (t : Table) (instr : Instr) → in_range instr ≡ true → Reads t 
 read_none t instr ok = record { filled = λ places step. refl; range = λ places step all. ok }
 
 -- an instruction with one number
-read_one : Rows → (t : Table) (instr : Instr) (f : Field) (e : line.ExpressionItems) (x : Filling) → in_range instr ≡ true → IsField instr f → field.field_filling t f e ≡ Ok x → is_told x ≡ true
+read_one : Rows → (t : Table) (instr : Instr) (f : Field) (e : line.ExpressionItems) (x : Filling) → in_range instr ≡ true → IsField instr f → field.field_filling t f e ≡ Ok x → is_filled x ≡ true
     → Reads t instr ((f, e) ∷ []) ((f, x) ∷ [])
 read_one rows t instr f e x ok is was told = record {
   filled = λ places step. (
@@ -72,7 +72,7 @@ kept_field rows instr n f is = inr (rows.field Field.Displacement n instr Form.N
 
 -- a displacement, and then a number
 displacement_first : Rows → (t : Table) (instr : Instr) (g : Field) (d e : line.ExpressionItems) (x y : Filling) → in_range instr ≡ true → number_field instr ≡ Some g
-    → field.field_filling t Field.Displacement d ≡ Ok x → is_told x ≡ true → field.field_filling t g e ≡ Ok y → is_told y ≡ true
+    → field.field_filling t Field.Displacement d ≡ Ok x → is_filled x ≡ true → field.field_filling t g e ≡ Ok y → is_filled y ≡ true
     → Reads t instr ((Field.Displacement, d) ∷ (g, e) ∷ []) ((Field.Displacement, x) ∷ (g, y) ∷ [])
 displacement_first rows t instr g d e x y ok is was told next told_too = record {
   filled = λ places step. (
@@ -113,7 +113,7 @@ displacement_first rows t instr g d e x y ok is was told next told_too = record 
 
 -- a number, and then a displacement
 displacement_last : Rows → (t : Table) (instr : Instr) (g : Field) (d e : line.ExpressionItems) (x y : Filling) → in_range instr ≡ true → number_field instr ≡ Some g
-    → field.field_filling t Field.Displacement d ≡ Ok x → is_told x ≡ true → field.field_filling t g e ≡ Ok y → is_told y ≡ true
+    → field.field_filling t Field.Displacement d ≡ Ok x → is_filled x ≡ true → field.field_filling t g e ≡ Ok y → is_filled y ≡ true
     → Reads t instr ((g, e) ∷ (Field.Displacement, d) ∷ []) ((g, y) ∷ (Field.Displacement, x) ∷ [])
 displacement_last rows t instr g d e x y ok is was told next told_too =
     let before = displacement_first rows t instr g d e x y ok is was told next told_too in
@@ -136,16 +136,16 @@ one_filling : (t : Table) (n : Field × line.ExpressionItems) (y : Field × Fill
 one_filling t n y is = let b = bind_ok (field.field_filling t n.0 n.1) _ y is in (b.0, b.1, cc)
 
 abbrev pub are_told : Fillings → Bool
-are_told ns = list_all (λ n. is_told n.1) ns
+are_told ns = list_all (λ n. is_filled n.1) ns
 
 -- The numbers that an instruction may have, all filled and known: none; one; or a displacement and a number, in either order.
 pub data Shape (t : Table) (instr : Instr) : Spelled → Fillings → Type 0 where
   none : Shape t instr [] []
-  one : (f : Field) (e : line.ExpressionItems) (x : Filling) → IsField instr f → field.field_filling t f e ≡ Ok x → is_told x ≡ true → Shape t instr ((f, e) ∷ []) ((f, x) ∷ [])
-  first : (g : Field) (d e : line.ExpressionItems) (x y : Filling) → number_field instr ≡ Some g → field.field_filling t Field.Displacement d ≡ Ok x → is_told x ≡ true
-      → field.field_filling t g e ≡ Ok y → is_told y ≡ true → Shape t instr ((Field.Displacement, d) ∷ (g, e) ∷ []) ((Field.Displacement, x) ∷ (g, y) ∷ [])
-  last : (g : Field) (d e : line.ExpressionItems) (x y : Filling) → number_field instr ≡ Some g → field.field_filling t Field.Displacement d ≡ Ok x → is_told x ≡ true
-      → field.field_filling t g e ≡ Ok y → is_told y ≡ true → Shape t instr ((g, e) ∷ (Field.Displacement, d) ∷ []) ((g, y) ∷ (Field.Displacement, x) ∷ [])
+  one : (f : Field) (e : line.ExpressionItems) (x : Filling) → IsField instr f → field.field_filling t f e ≡ Ok x → is_filled x ≡ true → Shape t instr ((f, e) ∷ []) ((f, x) ∷ [])
+  first : (g : Field) (d e : line.ExpressionItems) (x y : Filling) → number_field instr ≡ Some g → field.field_filling t Field.Displacement d ≡ Ok x → is_filled x ≡ true
+      → field.field_filling t g e ≡ Ok y → is_filled y ≡ true → Shape t instr ((Field.Displacement, d) ∷ (g, e) ∷ []) ((Field.Displacement, x) ∷ (g, y) ∷ [])
+  last : (g : Field) (d e : line.ExpressionItems) (x y : Filling) → number_field instr ≡ Some g → field.field_filling t Field.Displacement d ≡ Ok x → is_filled x ≡ true
+      → field.field_filling t g e ≡ Ok y → is_filled y ≡ true → Shape t instr ((g, e) ∷ (Field.Displacement, d) ∷ []) ((g, y) ∷ (Field.Displacement, x) ∷ [])
 
 pub shape : (t : Table) (instr : Instr) (numbers : Spelled) (ns : Fillings) → AreFields instr (map (λ n. n.0) numbers) → fillings t numbers ≡ Ok ns → are_told ns ≡ true → Shape t instr numbers ns
 shape t instr [] ns fields is told = let same : [] ≡ ns = cc in subst (Shape t instr []) same none
@@ -154,7 +154,7 @@ shape t instr (n ∷ []) ns fields is told =
     let same : a.0 ∷ [] ≡ ns = cc in
     let x = one_filling t n a.0 a.1 in
     let all : (n.0, x.0) ∷ [] ≡ ns = ap (λ y. y ∷ []) x.2 ∙ same in
-    subst (Shape t instr (n ∷ [])) all (one n.0 n.1 x.0 fields x.1 (and_parts (is_told x.0) true (ap are_told all ∙ told)).0)
+    subst (Shape t instr (n ∷ [])) all (one n.0 n.1 x.0 fields x.1 (and_parts (is_filled x.0) true (ap are_told all ∙ told)).0)
 shape t instr (n ∷ m ∷ []) ns fields is told =
     let a = bind_ok (number_filled t n) _ ns is in
     let b = bind_ok (each (number_filled t) (m ∷ [])) _ ns a.2 in
@@ -164,11 +164,11 @@ shape t instr (n ∷ m ∷ []) ns fields is told =
     let x = one_filling t n a.0 a.1 in
     let y = one_filling t m c.0 c.1 in
     let all : (n.0, x.0) ∷ (m.0, y.0) ∷ [] ≡ ns = ap (λ z. z ∷ (m.0, y.0) ∷ []) x.2 ∙ ap (λ z. a.0 ∷ z ∷ []) y.2 ∙ ap (λ zs. a.0 ∷ zs) end ∙ same in
-    let one_told = and_parts (is_told x.0) (is_told y.0 && true) (ap are_told all ∙ told) in
-    let other_told = and_parts (is_told y.0) true one_told.1 in
+    let one_told = and_parts (is_filled x.0) (is_filled y.0 && true) (ap are_told all ∙ told) in
+    let other_told = and_parts (is_filled y.0) true one_told.1 in
     subst (Shape t instr (n ∷ m ∷ [])) all (two n.0 m.0 n.1 m.1 x.0 y.0 fields x.1 one_told.0 y.1 other_told.0)
   where
-    two : (f g : Field) (d e : line.ExpressionItems) (x y : Filling) → AreFields instr (f ∷ g ∷ []) → field.field_filling t f d ≡ Ok x → is_told x ≡ true → field.field_filling t g e ≡ Ok y → is_told y ≡ true
+    two : (f g : Field) (d e : line.ExpressionItems) (x y : Filling) → AreFields instr (f ∷ g ∷ []) → field.field_filling t f d ≡ Ok x → is_filled x ≡ true → field.field_filling t g e ≡ Ok y → is_filled y ≡ true
         → Shape t instr ((f, d) ∷ (g, e) ∷ []) ((f, x) ∷ (g, y) ∷ [])
     two f g d e x y (inl (at, is)) was told next told_too =
         subst (λ h. Shape t instr ((h, d) ∷ (g, e) ∷ []) ((h, x) ∷ (g, y) ∷ [])) (sym at) (first g d e x y is (ap (λ h. field.field_filling t h d) (sym at) ∙ was) told next told_too)

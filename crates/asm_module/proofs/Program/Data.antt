@@ -17,10 +17,10 @@ use Rattle.asm_spell.specs.Line as line
 use Rattle.asm_stmt.specs.declared.cell.Cell.{Cell}
 use Rattle.asm_stmt.specs.declared.cell.Filling.{Filling}
 use Rattle.zmo_object.specs.declared.module.hole.Width.{Width}
-use Rattle.asm_stmt.specs.Cells.{all_told, bytes, cell_bytes, holes, is_told}
+use Rattle.asm_stmt.specs.Cells.{all_filled, bytes, cell_bytes, holes, is_filled}
 use Rattle.asm_stmt.specs.Fields as field
 use Rattle.asm_stmt.specs.Made as made
-use Rattle.asm_stmt.specs.Made.{Made, Piece, Some_piece, all_laid, cells, laid_cells, text_cell, value_cells, word_cells}
+use Rattle.asm_stmt.specs.Made.{Made, Piece, Some_piece, items_made, cells, cells_made, text_cell, value_cells, word_cells}
 use Rattle.asm_module.specs.Program.Pieces.{datum_bytes, width}
 use Rattle.asm_module.specs.Program.Statement as statement
 use Rattle.asm_module.specs.Program.Statement.{Datum, byte_items, word_item, replaced_expression}
@@ -37,11 +37,11 @@ each_items P read items none more one =
 
 -- If all values are known, the fields have the bytes of the items at these addresses.
 abbrev AtPlaces : (ℕ → ℕ) → List Cell → List Datum → Type 0
-AtPlaces places cs ds = all_told cs ≡ true → flat_map (cell_at places) cs ≡ flat_map (datum_bytes places) ds
+AtPlaces places cs ds = all_filled cs ≡ true → flat_map (cell_at places) cs ≡ flat_map (datum_bytes places) ds
 
 more_places : (places : ℕ → ℕ) (a b : List Cell) (c d : List Datum) → AtPlaces places a c → AtPlaces places b d → AtPlaces places (a ++ b) (c ++ d)
 more_places places a b c d p q told =
-    let both = and_parts (all_told a) (all_told b) (sym (list_all-append (λ x. is_told x.filling) a b) ∙ told) in
+    let both = and_parts (all_filled a) (all_filled b) (sym (list_all-append (λ x. is_filled x.filling) a b) ∙ told) in
     flat_map-append (cell_at places) a b ∙ ap (λ xs. xs ++ flat_map (cell_at places) b) (p both.0) ∙ ap (λ xs. flat_map (datum_bytes places) c ++ xs) (q both.1)
     ∙ sym (flat_map-append (datum_bytes places) c d)
 
@@ -79,7 +79,7 @@ byte_places t places step (line.Text text) cs is = let same : map text_cell text
 byte_places t places step (line.Byte e) cs is =
     let c = byte_item t e cs is in
     subst (λ xs. AtPlaces places xs (byte_items t (line.Byte e))) c.2
-    (λ told. ap (λ n. n % 256 ∷ []) (fills t places step Field.Byte e c.0 c.1 (and_parts (is_told c.0) true told).0).worth)
+    (λ told. ap (λ n. n % 256 ∷ []) (fills t places step Field.Byte e c.0 c.1 (and_parts (is_filled c.0) true told).0).worth)
 
 byte_size : (t : Table) (v : line.Value) (cs : List Cell) → value_cells t v ≡ Ok cs → SameSize cs (byte_items t v)
 byte_size t (line.Text text) cs is = let same : map text_cell text ≡ cs = cc in subst (λ xs. SameSize xs (byte_items t (line.Text text))) same (text_size text)
@@ -89,7 +89,7 @@ word_places : (t : Table) (places : ℕ → ℕ) → Step t.statements places �
 word_places t places step e cs is =
     let c = word_item_of t e cs is in
     subst (λ xs. AtPlaces places xs (word_item t e ∷ [])) c.2
-    (λ told. ap (λ n. datum_bytes places (statement.Word (Leaf (Atom.Number n))) ++ []) (fills t places step Field.Word e c.0 c.1 (and_parts (is_told c.0) true told).0).worth)
+    (λ told. ap (λ n. datum_bytes places (statement.Word (Leaf (Atom.Number n))) ++ []) (fills t places step Field.Word e c.0 c.1 (and_parts (is_filled c.0) true told).0).worth)
 
 word_size : (t : Table) (e : line.ExpressionItems) (cs : List Cell) → word_cells t e ≡ Ok cs → SameSize cs (word_item t e ∷ [])
 word_size t e cs is = let c = word_item_of t e cs is in subst (λ xs. SameSize xs (word_item t e ∷ [])) c.2 refl
@@ -102,7 +102,7 @@ pub record Lays (p : Piece) (items : List Datum) (t : Table) : Type 0 where
 
 lays : {A : Type 0} (t : Table) (read : A → Result (List Cell) StmtFault) (items : A → List Datum) → ((x : A) (cs : List Cell) → read x ≡ Ok cs → SameSize cs (items x))
     → ((places : ℕ → ℕ) → Step t.statements places → (x : A) (cs : List Cell) → read x ≡ Ok cs → AtPlaces places cs (items x))
-    → (xs : List A) (p : Piece) → all_laid (each read xs) ≡ Ok (Some_piece p) → Lays p (flat_map items xs) t
+    → (xs : List A) (p : Piece) → items_made (each read xs) ≡ Ok (Some_piece p) → Lays p (flat_map items xs) t
 lays t read items sizes worth xs p is =
     let d = data_made read xs p is in
     record {

@@ -22,7 +22,7 @@ use Rattle.z80_form.specs.Numbers.{allows}
 use Rattle.asm_spell.specs.declared.fault.StmtFault.{StmtFault}
 use Rattle.asm_spell.specs.Line as line
 use Rattle.asm_stmt.specs.declared.cell.Filling.{Filling}
-use Rattle.asm_stmt.specs.Cells.{is_told}
+use Rattle.asm_stmt.specs.Cells.{is_filled}
 use Rattle.asm_stmt.specs.Fields.{byte, byte_by, distance_or, field_filling, fixed, fixed_by, from_end, is_number_unknown, number, settled_in, word_filling, word_filling_by}
 use Rattle.zmo_object.specs.Holes.{ends_in_byte}
 use Rattle.asm_stmt.proofs.Making.{as_stmt_ok, bind_ok, chosen_ok}
@@ -51,14 +51,14 @@ pub record Fills (places : ℕ → ℕ) (field : Field) (f : Filling) (x : Expre
 abbrev answer : Filling → Result Filling StmtFault
 answer f = Ok f
 
-not_told : (f : Filling) → answer Filling.Unknown ≡ Ok f → is_told f ≡ true → ⊥
-not_told f is told = let same : Filling.Unknown ≡ f = cc in false≢true (ap is_told same ∙ told)
+not_told : (f : Filling) → answer Filling.Unknown ≡ Ok f → is_filled f ≡ true → ⊥
+not_told f is told = let same : Filling.Unknown ≡ f = cc in false≢true (ap is_filled same ∙ told)
 
 -- The items that a filling comes from, for each kind of field.
 abbrev From : (ℕ → ℕ) → Settled → Filling → Type 0
 From places s f = (items : List (Item Atom)) × (s ≡ Settled.Known items) × (worth_at places f ≡ value places (tree items))
 
-byte_from : (places : ℕ → ℕ) (s : Settled) (f : Filling) → byte s ≡ Ok f → is_told f ≡ true → From places s f
+byte_from : (places : ℕ → ℕ) (s : Settled) (f : Filling) → byte s ≡ Ok f → is_filled f ≡ true → From places s f
 byte_from places (Settled.Known items) f is told = (items, refl, by_number (number items) refl is)
   where
     by_number : (o : Option ℕ) → number items ≡ o → byte_by o items ≡ Ok f → worth_at places f ≡ value places (tree items)
@@ -69,7 +69,7 @@ byte_from places (Settled.Unknown Unknown.Anything) f is told = absurd (not_told
 byte_from places (Settled.Unknown Unknown.Number) f is told = absurd (not_told f is told)
 byte_from places (Settled.Unknown Unknown.VariesInByte) f is told = absurd (not_told f is told)
 
-word_from : (places : ℕ → ℕ) (s : Settled) (f : Filling) → answer (word_filling s) ≡ Ok f → is_told f ≡ true → From places s f
+word_from : (places : ℕ → ℕ) (s : Settled) (f : Filling) → answer (word_filling s) ≡ Ok f → is_filled f ≡ true → From places s f
 word_from places (Settled.Known items) f is told = (items, refl, by_number (number items) refl is)
   where
     by_number : (o : Option ℕ) → number items ≡ o → answer (word_filling_by o items) ≡ Ok f → worth_at places f ≡ value places (tree items)
@@ -77,7 +77,7 @@ word_from places (Settled.Known items) f is told = (items, refl, by_number (numb
     by_number None was is = let same : Filling.Varying items ≡ f = cc in ap (worth_at places) (sym same)
 word_from places (Settled.Unknown what) f is told = absurd (not_told f is told)
 
-pub fixed_from : (field : Field) (s : Settled) (f : Filling) → fixed field s ≡ Ok f → is_told f ≡ true
+pub fixed_from : (field : Field) (s : Settled) (f : Filling) → fixed field s ≡ Ok f → is_filled f ≡ true
     → (items : List (Item Atom)) × (n : ℕ) × (s ≡ Settled.Known items) × (number items ≡ Some n) × (f ≡ Filling.Number n) × (allows field n ≡ true)
 fixed_from field (Settled.Known items) f is told = by_number (number items) refl is
   where
@@ -120,7 +120,7 @@ offset_value t places step (Infix Binary.Subtract (Leaf Here) a) n is =
     ∙ from_here (places t.here) (65536 - c.0) ∙ ap from_end c.2
 offset_value t places step (Infix op a b) n is = cc
 
-pub distance_from : (why : Option ExprFault) (o : Offset) (f : Filling) → distance_or why o ≡ Ok f → is_told f ≡ true
+pub distance_from : (why : Option ExprFault) (o : Offset) (f : Filling) → distance_or why o ≡ Ok f → is_filled f ≡ true
     → (n : ℕ) × (o ≡ Offset.Number n) × (f ≡ Filling.Number (from_end n)) × (allows Field.Distance (from_end n) ≡ true)
 distance_from why Offset.Other f is told = cc
 distance_from (Some why) (Offset.Number n) f is told = cc
@@ -137,14 +137,14 @@ from_settled : (t : Table) (places : ℕ → ℕ) → Step t.statements places �
     → value places (tree items) ≡ value places (replaced_expression t e)
 from_settled t places step e s items is known = settled_value t (source_tree e) items (as_stmt_ok (settled t (source_tree e)) s is ∙ ap (λ x. Ok x) known) places step
 
-fixed_fills : (t : Table) (places : ℕ → ℕ) → Step t.statements places → (field : Field) (e : line.ExpressionItems) (f : Filling) → (settled_in t e >>= fixed field) ≡ Ok f → is_told f ≡ true
+fixed_fills : (t : Table) (places : ℕ → ℕ) → Step t.statements places → (field : Field) (e : line.ExpressionItems) (f : Filling) → (settled_in t e >>= fixed field) ≡ Ok f → is_filled f ≡ true
     → (n : ℕ) × (f ≡ Filling.Number n) × (allows field n ≡ true) × (worth_at places f ≡ value places (replaced_expression t e))
 fixed_fills t places step field e f is told =
     let b = bind_ok (settled_in t e) (fixed field) f is in
     let w = fixed_from field b.0 f b.2 told in
     (w.1, w.4, w.5, ap (worth_at places) w.4 ∙ sym (number_value places w.0 w.1 w.3) ∙ from_settled t places step e b.0 w.0 b.1 w.2)
 
-pub fills : (t : Table) (places : ℕ → ℕ) → Step t.statements places → (field : Field) (e : line.ExpressionItems) (f : Filling) → field_filling t field e ≡ Ok f → is_told f ≡ true → Fills places field f (filling t field e)
+pub fills : (t : Table) (places : ℕ → ℕ) → Step t.statements places → (field : Field) (e : line.ExpressionItems) (f : Filling) → field_filling t field e ≡ Ok f → is_filled f ≡ true → Fills places field f (filling t field e)
 fills t places step Field.Byte e f is told =
     let b = bind_ok (settled_in t e) byte f is in
     let w = byte_from places b.0 f b.2 told in

@@ -22,11 +22,11 @@ use Rattle.z80_form.specs.Numbers.{number_field}
 use Rattle.z80_instr.specs.declared.Branch.{Branch}
 use Rattle.asm_spell.specs.Line as line
 use Rattle.asm_stmt.specs.declared.cell.Filling.{Filling}
-use Rattle.asm_stmt.specs.Cells.{is_told, number_or_0}
+use Rattle.asm_stmt.specs.Cells.{is_filled, number_or_0}
 use Rattle.asm_stmt.specs.Fields as field
 use Rattle.asm_stmt.specs.Fields.{number, settled_in}
 use Rattle.asm_stmt.specs.Made as made
-use Rattle.asm_stmt.specs.Made.{Fillings, Made, Nothing, Piece, Some_piece, code_hole, coded, fillings, is_origin, laid_cells, long_jump, number_in, ref_of, space_of_size, space_fill, space_size}
+use Rattle.asm_stmt.specs.Made.{Fillings, Made, Nothing, Piece, Some_piece, code_hole, coded, fillings, is_origin, cells_made, long_jump, number_in, ref_of, space_of_size, space_fill, space_size}
 use Rattle.asm_stmt.specs.Sized.{piece_sized}
 use Rattle.asm_stmt.proofs.Making.{as_stmt_ok, bind_ok, code_made, code_something, is_space, jump_something, laid_something, no_space, number_in_ok, origin_nothing, short_something, size_kept, space_made, space_settled}
 use Rattle.asm_module.specs.Program.Linked.{filled}
@@ -133,7 +133,7 @@ fill_fixed : (t : Table) (fill : Option line.ExpressionItems) (f : Filling) (k :
 fill_fixed t None f k is one = let same : 0 ≡ k = cc in ap (λ n. n % 256) same
 fill_fixed t (Some e) f k is one =
     let first = bind_ok (settled_in t e) (field.fixed Field.Byte) f is in
-    let from = fixed_from Field.Byte first.0 f first.2 (ap is_told one) in
+    let from = fixed_from Field.Byte first.0 f first.2 (ap is_filled one) in
     let same : from.1 ≡ k = cc in
     ap (λ n. n % 256) (ap statement.known_number (settled_worth t (source_tree e) from.0 from.1 (as_stmt_ok (settled t (source_tree e)) first.0 first.1 ∙ ap (λ x. Ok x) from.2) from.3) ∙ same)
 
