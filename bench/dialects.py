@@ -94,6 +94,10 @@ class Pasmo(Ours):
         return ["\tORG\t0100H"]
 
 
+class Z80asm(Pasmo):
+    """z80asm of Bas Wijnen, for a program without operators."""
+
+
 class Gnu(Ours):
     """GNU as for z80."""
 

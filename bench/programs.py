@@ -4,6 +4,8 @@ JUMPS = 18_999
 STATEMENTS = 20_000
 # The last jumps of a chain, which go back to its first statement.
 BACK = 70
+# Labels of a ladder, of 24 bytes.
+LONG = "THE_LADDER_S_LABEL_{:05}"
 
 
 class Chance:
@@ -26,14 +28,14 @@ def lines_of(lines):
 
 # -- ladders
 
-def ladder(dialect):
+def ladder(dialect, label="L{}"):
     """Jumps, each over the next 63 statements: all reach but the last 63, and each of these pushes out others, until all are long."""
     lines = dialect.begin("ladder", [], [])
     for k in range(JUMPS):
-        lines.append(dialect.jump(f"L{k}", "", f"L{k + 64}"))
-    lines.append(dialect.room(f"L{JUMPS}", 4))
+        lines.append(dialect.jump(label.format(k), "", label.format(k + 64)))
+    lines.append(dialect.room(label.format(JUMPS), 4))
     for k in range(JUMPS + 1, JUMPS + 64):
-        lines.append(dialect.numbers(f"L{k}", ["1", "2"]))
+        lines.append(dialect.numbers(label.format(k), ["1", "2"]))
     return lines_of(lines)
 
 
@@ -73,6 +75,31 @@ def macros():
         lines.append(statement(k, count))
         if k % (count // 100) == 57:
             lines.append(f"\tPUT {k % 250}")
+    return lines_of(lines)
+
+
+# -- lines that are empty or comments
+
+SHORT = (
+    ("LD", "A,B"), ("INC", "HL"), ("ADD", "A,C"), ("PUSH", "BC"), ("LD", "(HL),A"), ("EX", "DE,HL"),
+    ("OR", "A"), ("DEC", "BC"), ("XOR", "D"), ("POP", "BC"), ("SCF", ""), ("RET", ""),
+)
+COMMENTS = (
+    "; Reads the next record of the file into the buffer",
+    "; ---------------------------------------------------------------",
+    ";",
+    "\t; HL is the address of the entry, and B counts",
+    "; Changed: A, B, HL. Carry is set at the end of the file.",
+)
+
+
+def sparse(dialect, empty, comments):
+    """20,000 short statements of twelve forms in turn, a label every ten, and after each of them some empty lines and some comments."""
+    lines = dialect.begin("sparse", [], [])
+    for k in range(STATEMENTS):
+        lines.append(dialect.line(f"L{k}" if k % 10 == 0 else "", *SHORT[k % len(SHORT)]))
+        lines += [""] * empty
+        lines += [COMMENTS[(k + each) % len(COMMENTS)] for each in range(comments)]
     return lines_of(lines)
 
 
@@ -402,6 +429,271 @@ class Mix:
 
 def mixed(dialect, statements, calls=True):
     return Mix(dialect, statements, 23, calls=calls).source()
+
+
+# -- a program as a compiler writes it
+
+class Compiled:
+    """A program of functions, each with its variables at IX, and after it those that stay and its texts. It defines no constants and no
+    macros, and each of its lines is a statement."""
+
+    # The fewest statements of a function, and how many more it may have.
+    LEAST = 30
+    MORE = 40
+    # How many statements a function ends with, the most that a step of it has, and the most of a simple step.
+    END = 5
+    STEP = 12
+    SIMPLE = 4
+
+    def __init__(self, dialect, statements, seed):
+        self.dialect = dialect
+        self.chance = Chance(seed)
+        self.sizes = self.shares(statements)
+        self.lines = []
+        self.count = 0
+        self.labels = 0
+        # The function that is written, and the label of the next statement.
+        self.at = 0
+        self.label = ""
+
+    def shares(self, statements):
+        """How many statements each function has, which is decided first: a call may name a later function."""
+        sizes = []
+        while statements > 2 * self.LEAST + self.MORE:
+            sizes.append(self.LEAST + self.chance.below(self.MORE + 1))
+            statements -= sizes[-1]
+        return [*sizes, statements]
+
+    # -- lines
+
+    def add(self, write, *operands):
+        """One statement, with the label that waits for it."""
+        label, self.label = self.label, ""
+        made = write(label, *operands)
+        self.lines += made if isinstance(made, list) else [made]
+        self.count += 1
+
+    def put(self, word, operands=""):
+        self.add(self.dialect.line, word, operands)
+
+    def jump(self, condition, target):
+        self.add(self.dialect.jump, condition, target)
+
+    def new_label(self):
+        self.labels += 1
+        return f"L{self.labels}"
+
+    # -- operands
+
+    def local(self):
+        """A byte of the function's own variables."""
+        return self.dialect.place("IX", -2 * (1 + self.chance.below(6)))
+
+    def near(self):
+        """A function: often one that stands near, so that names are used soon after each other, as in a program of parts."""
+        if self.chance.below(3) == 0:
+            return self.chance.below(len(self.sizes))
+        return min(max(self.at - 6 + self.chance.below(10), 0), len(self.sizes) - 1)
+
+    def variable(self):
+        return f"V{self.at if self.chance.below(2) else self.near()}"
+
+    def small(self):
+        """A number of a byte."""
+        d, c = self.dialect, self.chance
+        return d.value(str(c.below(100)) if c.below(3) else d.hexadecimal(c.below(256)))
+
+    def large(self):
+        """A number of a word."""
+        d, c = self.dialect, self.chance
+        return d.value(str(c.below(1000)) if c.below(2) else d.hexadecimal(c.below(65536)))
+
+    def address(self):
+        c = self.chance
+        return self.dialect.value((f"T{self.near()}", self.variable(), f"{self.variable()}+1", f"{self.variable()}+{2 + c.below(4)}")[c.below(4)])
+
+    # -- steps without a jump
+
+    def load(self):
+        """Reads a variable of the function, or writes it."""
+        at = -2 * (1 + self.chance.below(6))
+        low, high = self.dialect.place("IX", at), self.dialect.place("IX", at + 1)
+        for operands in self.chance.of(((f"L,{low}", f"H,{high}"), (f"E,{low}", f"D,{high}"), (f"{low},L", f"{high},H"))):
+            self.put("LD", operands)
+
+    def fetch(self):
+        self.put("LD", self.chance.of(("HL,({})", "HL,({})", "A,({})", "DE,({})", "A,({}+1)")).format(self.variable()))
+
+    def keep(self):
+        self.put("LD", self.chance.of(("({}),HL", "({}),HL", "({}),A", "({}+1),A", "({}),DE")).format(self.variable()))
+
+    def number(self):
+        c = self.chance
+        part = c.below(6)
+        if part < 3:
+            self.put("LD", f"{c.of(WORDS)},{self.large()}")
+        elif part < 5:
+            self.put("LD", f"{c.of(BYTES)},{self.small()}")
+        else:
+            self.put("LD", f"{self.local()},{self.small()}")
+
+    def sum(self):
+        for word, operands in self.chance.of((
+            [("ADD", "HL,DE")], [("ADD", "HL,HL")], [("ADD", "HL,BC")], [("INC", "HL")], [("DEC", "HL")], [("INC", "DE")], [("EX", "DE,HL")],
+            [("OR", "A"), ("SBC", "HL,DE")], [("ADD", "HL,HL"), ("ADD", "HL,DE")], [("PUSH", "HL")], [("POP", "DE")], [("EX", "(SP),HL")],
+        )):
+            self.put(word, operands)
+
+    def byte(self):
+        c = self.chance
+        word, operands = (
+            lambda: ("AND", self.small()),
+            lambda: ("OR", self.small()),
+            lambda: ("XOR", c.of(BYTES)),
+            lambda: ("ADD", f"A,{self.small()}"),
+            lambda: ("ADC", f"A,{c.of(BYTES)}"),
+            lambda: ("SUB", c.of(BYTES)),
+            lambda: ("INC", self.local()),
+            lambda: ("DEC", c.of(BYTES)),
+            lambda: ("CP", "(HL)"),
+            lambda: ("SRL", "H"),
+            lambda: ("RR", "L"),
+            lambda: ("RLCA", ""),
+            lambda: ("BIT", f"{c.below(8)},{c.of(BYTES)}"),
+            lambda: ("SET", f"{c.below(8)},(HL)"),
+            lambda: ("RES", f"{c.below(8)},{self.local()}"),
+            lambda: ("NEG", ""),
+        )[c.below(16)]()
+        self.put(word, operands)
+
+    def move(self):
+        self.put("LD", f"{self.chance.of(BYTES)},{self.chance.of(BYTES)}")
+
+    def pointed(self):
+        first, then = self.chance.of((("E,(HL)", "D,(HL)"), ("(HL),E", "(HL),D"), ("C,(HL)", "B,(HL)")))
+        for word, operands in (("LD", first), ("INC", "HL"), ("LD", then)):
+            self.put(word, operands)
+
+    def port(self):
+        place = f"({self.dialect.hexadecimal(self.chance.below(256))})"
+        self.put(*self.chance.of((("IN", f"A,{place}"), ("OUT", f"{place},A"))))
+
+    def call(self):
+        """A call, with an argument or without."""
+        if self.chance.below(2):
+            self.put("LD", f"HL,{self.address()}")
+            self.put("PUSH", "HL")
+            self.put("CALL", f"F{self.near()}")
+            self.put("POP", "AF")
+        else:
+            self.put("CALL", f"F{self.near()}")
+
+    def copy(self):
+        for word, operands in (("LD", f"HL,{self.address()}"), ("LD", f"DE,{self.address()}"), ("LD", f"BC,{self.large()}"), ("LDIR", "")):
+            self.put(word, operands)
+
+    def simple(self):
+        """A step of at most SIMPLE statements."""
+        self.chance.of((
+            self.load, self.load, self.load, self.fetch, self.fetch, self.keep, self.keep, self.number, self.number, self.sum, self.sum,
+            self.byte, self.byte, self.move, self.pointed, self.port, self.call, self.call, self.copy,
+        ))()
+
+    # -- steps with a jump
+
+    def test(self):
+        """Compares, and says by which condition to jump."""
+        c = self.chance
+        part = c.below(4)
+        if part == 0:
+            self.put("LD", "A,H")
+            self.put("OR", "L")
+            return c.of(("Z", "NZ"))
+        if part == 1:
+            self.put("OR", "A")
+            self.put("SBC", "HL,DE")
+            return c.of(("C", "NC", "M", "P"))
+        if part == 2:
+            self.put("CP", self.small())
+            return c.of(CONDITIONS)
+        self.put("BIT", f"{c.below(8)},{self.local()}")
+        return c.of(("Z", "NZ"))
+
+    def branch(self):
+        after = self.new_label()
+        self.jump(self.test(), after)
+        self.simple()
+        self.simple()
+        self.label = after
+
+    def choice(self):
+        other, after = self.new_label(), self.new_label()
+        self.jump(self.test(), other)
+        self.simple()
+        self.jump("", after)
+        self.label = other
+        self.simple()
+        self.label = after
+
+    def loop(self):
+        self.label = self.label or self.new_label()
+        again = self.label
+        self.simple()
+        self.simple()
+        self.jump(self.test(), again)
+
+    def wait(self):
+        self.put("LD", f"B,{self.small()}")
+        self.label = self.new_label()
+        again = self.label
+        self.sum()
+        self.put("DJNZ", again)
+
+    def leave(self):
+        self.jump(self.test(), f"R{self.at}")
+
+    # -- functions
+
+    def data(self):
+        """The variables that stay, and the text."""
+        d, c = self.dialect, self.chance
+        self.label = f"V{self.at}"
+        kind = c.below(3)
+        if kind == 0:
+            self.add(d.room, 2 * (1 + c.below(4)))
+        elif kind == 1:
+            self.add(d.words, [f"F{self.near()}" for _ in range(1 + c.below(4))])
+        else:
+            self.add(d.numbers, [str(c.below(256)) for _ in range(1 + c.below(8))])
+        self.label = f"T{self.at}"
+        self.add(d.text, c.of(TEXTS), [0])
+
+    def function(self, size):
+        end = self.count + size
+        self.label = f"F{self.at}"
+        for word, operands in (("PUSH", "IX"), ("LD", f"IX,{self.dialect.value('0')}"), ("ADD", "IX,SP"), ("PUSH", "AF")):
+            self.put(word, operands)
+        while end - self.count > self.STEP + self.END:
+            self.chance.of((self.simple, self.simple, self.simple, self.branch, self.choice, self.loop, self.wait, self.leave))()
+        while end - self.count > self.SIMPLE + self.END:
+            self.simple()
+        # At least one, so that no label of a step waits any more: a statement has one label.
+        while end - self.count > self.END:
+            self.move()
+        self.label = f"R{self.at}"
+        for word, operands in (("LD", "SP,IX"), ("POP", "IX"), ("RET", "")):
+            self.put(word, operands)
+        self.data()
+
+    def source(self):
+        self.lines = self.dialect.begin("compiled", [], [])
+        for self.at, size in enumerate(self.sizes):
+            self.function(size)
+        return lines_of(self.lines)
+
+
+def compiled(dialect, statements):
+    return Compiled(dialect, statements, 41).source()
 
 
 def shared(count):
