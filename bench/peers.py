@@ -3,8 +3,11 @@
 import re
 import shutil
 import subprocess
+from pathlib import Path
 
 import dialects
+
+TOP = Path(__file__).resolve().parent.parent
 
 
 def found(*names):
@@ -38,6 +41,15 @@ class Z80dev:
 
     def run(self, base):
         return [self.path, "run", f"{base}.com"]
+
+    def blank(self, image):
+        return [self.path, "blank", image]
+
+    def put(self, image, file):
+        return [self.path, "put", image, file, "BIG.DAT"]
+
+    def get(self, image, file):
+        return [self.path, "get", image, "BIG.DAT", file]
 
     def made(self, folder, base):
         """The bytes of a program that was made."""
@@ -84,6 +96,21 @@ class Pasmo:
 
     def made(self, folder, base):
         return (folder / f"{base}.com").read_bytes()
+
+
+class Z80asm(Pasmo):
+    """Has no operators LOW and HIGH and its own way of macros, so it is given only a program without these."""
+
+    title = "z80asm"
+    package = "z80asm"
+    dialect = dialects.Z80asm()
+
+    def __init__(self):
+        self.path = found("z80asm")
+        self.is_here = bool(self.path)
+
+    def build(self, base):
+        return [[self.path, "-o", f"{base}.com", f"{base}.asm"]]
 
 
 class Sdcc:
@@ -156,5 +183,38 @@ quit
         return [self.path, f"{base}.ini"]
 
 
-def all_peers():
-    return [Gnu(), Pasmo(), Sdcc(), Host()]
+class Z80ex:
+    """The machine of libz80ex, which z80ex.c calls; that is compiled into a folder."""
+
+    title = "libz80ex"
+    package = "libz80ex-dev and gcc"
+
+    def __init__(self, folder):
+        self.path = str(folder / "z80ex")
+        words = [found("gcc"), "-O2", "-o", self.path, str(TOP / "bench" / "z80ex.c"), "-lz80ex"]
+        self.is_here = bool(words[0]) and subprocess.run(words, capture_output=True).returncode == 0
+
+    def run(self, base):
+        return [self.path, f"{base}.com"]
+
+
+class Cpmtools:
+    """cpmcp, which copies files to disks and from them."""
+
+    title = "cpmtools"
+    package = "cpmtools"
+    # The definitions that cpmcp looks for in the folder in which it is called.
+    formats = TOP / "porting" / "diskdefs"
+
+    def __init__(self):
+        self.path = found("cpmcp")
+        self.is_here = bool(self.path)
+
+    def copy(self, image, *files):
+        return [self.path, "-T", "raw,pcw180", "-f", "z80dev-eight", image, *files]
+
+    def put(self, image, file):
+        return self.copy(image, file, "0:big.dat")
+
+    def get(self, image, file):
+        return self.copy(image, "0:big.dat", file)

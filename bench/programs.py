@@ -147,6 +147,14 @@ SIEVE   EQU     1000H
 """
 
 
+# -- a file that is put on a disk
+
+def noise(count):
+    """Bytes that look like chance."""
+    chance = Chance(7)
+    return bytes(chance.below(256) for _ in range(count))
+
+
 # -- modules of one statement
 
 def single(dialect, number, count):
@@ -510,7 +518,8 @@ class Compiled:
 
     def address(self):
         c = self.chance
-        return self.dialect.value((f"T{self.near()}", self.variable(), f"{self.variable()}+1", f"{self.variable()}+{2 + c.below(4)}")[c.below(4)])
+        words = (f"T{self.near()}", self.variable(), f"{self.variable()}+1", f"{self.variable()}+{2 + c.below(4)}")
+        return self.dialect.value(words[c.below(4)])
 
     # -- steps without a jump
 
