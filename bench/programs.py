@@ -445,9 +445,11 @@ class Compiled:
     """A program of functions, each with its variables at IX, and after it those that stay and its texts. It defines no constants and no
     macros, and each of its lines is a statement."""
 
-    # The fewest statements of a function, and how many more it may have.
+    # The fewest statements of a function, and how many more it may have. Some functions have several times as many, so that not every jump
+    # in them can be short.
     LEAST = 30
     MORE = 40
+    LONGER = 4
     # How many statements a function ends with, the most that a step of it has, and the most of a simple step.
     END = 5
     STEP = 12
@@ -467,8 +469,9 @@ class Compiled:
     def shares(self, statements):
         """How many statements each function has, which is decided first: a call may name a later function."""
         sizes = []
-        while statements > 2 * self.LEAST + self.MORE:
-            sizes.append(self.LEAST + self.chance.below(self.MORE + 1))
+        while statements > self.LONGER * (self.LEAST + self.MORE) + self.LEAST:
+            size = self.LEAST + self.chance.below(self.MORE + 1)
+            sizes.append(size if self.chance.below(6) else self.LONGER * size)
             statements -= sizes[-1]
         return [*sizes, statements]
 
