@@ -1,5 +1,5 @@
 -- What `explain` answers for sources.
-use Rattle.std.specs.Prelude.{◌≡◌, ◌<◌, ℕ, ◌+◌, Bool, true, false, List, [], Result, Ok, Err, is_ok, length, map}
+use Rattle.std.specs.Prelude.{◌≡◌, ℕ, ◌+◌, Bool, true, false, List, [], Result, Ok, Err, is_ok, length, map}
 use Rattle.std.specs.List.{AllZip, list_any, sum_by}
 use Rattle.report_texts.specs.Front.{CountsLines, front_lines}
 use Rattle.zlink.specs.Built.{IsBuilt}
@@ -13,12 +13,15 @@ use Rattle.report_texts.specs.declared.front.SourceFile.{SourceFile}
 use Rattle.report_texts.specs.declared.front.Front.{Front}
 use Rattle.report_texts.specs.declared.report.Report.{Report}
 use Rattle.asm_module.specs.declared.fault.AsmFault.{AsmFault}
+use Rattle.report_texts.specs.Faults.Refusals.{told_text}
 use Rattle.report_texts.specs.Repeats.{HasNoRepeats, without_repeats}
+use Rattle.report_texts.specs.declared.faults.refusal.Told.{Told}
 use Rattle.report_texts.specs.Reports.{bears_name}
 use Rattle.link_errors.specs.Names.{link_name}
 use Rattle.link_errors.specs.Counts.{HasWarnings, warning_count}
 use Rattle.link_errors.specs.Longs.{AreLongNotes}
 use Rattle.zmo_object.specs.Modules.{module_of}
+use Rattle.z80dev_explain.specs.Fronts.{AreFrontErrors}
 use Rattle.z80dev_explain.specs.Reports.{is_report_of}
 
 -- Sources after a front have this number of warnings in their own lines.
@@ -64,15 +67,12 @@ pub record IsExplainedBehind (front : Front) (grow jumps : Bool) (files : List S
   pub reported : AreReports front behind building reports
   pub long : AreLongs building jumps longs
 
--- the reports for a front that has an error by itself: at least one, and no two for one error
-abbrev pub AreFrontErrors : Front → List Report → Type 0
-AreFrontErrors front reports = (0 < length reports) × ((before : ℕ) × CountsLines before (front_lines front) × HasNoRepeats before reports)
-
--- there is no program because of the front
-abbrev pub IsFrontFaulty : Front → Bool → List Report → List Report → Type 0
-IsFrontFaulty front has_program reports longs = (has_program ≡ false) × AreFrontErrors front reports × (longs ≡ [])
+-- There is no program, because the front is refused by itself, with this text.
+abbrev pub IsFrontFaulty : Front → List ℕ → Bool → List Report → List Report → Type 0
+IsFrontFaulty front said has_program reports longs =
+    (has_program ≡ false) × ((told : Told) × (told_text told ≡ said) × AreFrontErrors front told reports) × (longs ≡ [])
 
 -- What is said of sources and the front before them. If the front has an error by itself, the sources are not looked at.
 abbrev pub IsExplained : Front → Bool → Bool → List SourceFile → Bool → List Report → List Report → Type 0
 IsExplained front grow jumps files has_program reports longs =
-    UnlessFaulty front (λ said. IsFrontFaulty front has_program reports longs) (IsExplainedBehind front grow jumps files has_program reports longs)
+    UnlessFaulty front (λ said. IsFrontFaulty front said has_program reports longs) (IsExplainedBehind front grow jumps files has_program reports longs)

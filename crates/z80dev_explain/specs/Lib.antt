@@ -1,3 +1,4 @@
 pub mod Reports
+pub mod Fronts
 pub mod Explained
 pub mod Explanation

@@ -9,19 +9,19 @@ ghost use Rattle.report_texts.specs.Behind.{IsBehind};
 ghost use Rattle.report_texts.specs.Reports.{is_in_line, is_error, bears_name};
 ghost use Rattle.link_errors.specs.Names.{link_name};
 ghost use Rattle.link_errors.specs.Counts.{HasWarnings, warning_count};
-ghost use Rattle.z80dev_explain.specs.Explained.{AreFrontErrors, AreLongs, HasErrorOnce, IsExplained, IsExplainedBehind};
+ghost use Rattle.z80dev_explain.specs.Explained.{AreLongs, HasErrorOnce, IsExplained, IsExplainedBehind};
 ghost use Rattle.z80dev_explain.specs.Reports.{is_report_of};
 
 use crate::errors::{put_errors, report_of};
+use crate::front::front_errors;
 use crate::gathering::Gathered;
-use crate::shared::{put_told, put_unshared};
 use asm_module::{AsmFault, Lines, Module, assemble_with};
 use common::{KeyMixer, NameKey};
 use link_errors::{
     long_jump_notes, name_of, put_link_errors, put_mistakes, put_plain, warnings_of,
 };
 use report_texts::{
-    Form, Front, MOST_REPORTS, Refusal, Report, Severity, SourceFile, Told, Where, fault_of_front,
+    Form, Front, MOST_REPORTS, Refusal, Report, Severity, SourceFile, Where, fault_of_front,
     front_lines, front_text, sources_behind, texts_behind, why_name, without_repeats,
 };
 use std::alloc::{AllocError, Global};
@@ -101,7 +101,7 @@ fn order_of(report: &Report) -> (usize, u32) {
 }
 
 /// Answers the reports in the order of the sources and their lines.
-fn sorted(reports: Vec<Report>) -> Result<Vec<Report>, AllocError>
+pub(crate) fn sorted(reports: Vec<Report>) -> Result<Vec<Report>, AllocError>
     ensures { IfOk result (λ sorted. length sorted.items ≡ length reports.items) }
 {
     let mut reports = reports;
@@ -110,7 +110,7 @@ fn sorted(reports: Vec<Report>) -> Result<Vec<Report>, AllocError>
 }
 
 /// How many reports say all that is known: those that are printed.
-fn most_of(form: Form) -> usize {
+pub(crate) fn most_of(form: Form) -> usize {
     match form {
         Form::Plain | Form::Colored => MOST_REPORTS,
         Form::Json => usize::MAX,
@@ -133,7 +133,7 @@ fn only_error(
 }
 
 /// The key for a table of what sources have in them.
-fn key_of(sources: &Sources<'_, '_>) -> NameKey {
+pub(crate) fn key_of(sources: &Sources<'_, '_>) -> NameKey {
     let mut mixer = KeyMixer::new();
     mixer.mix_all(sources.texts);
     mixer.key()
@@ -271,52 +271,6 @@ fn explain_behind(
             longs: Vec::new(alloc),
         }),
     }
-}
-
-/// Answers all errors that are found in a front, given the first of them.
-fn all_of_front(
-    alloc: Global,
-    sources: &Sources<'_, '_>,
-    told: Told<'_>,
-    form: Form,
-) -> Result<Vec<Report>, AllocError>
-    ensures { IfOk result (λ reports. 0 < length reports.items) }
-{
-    let before = front_lines(sources.front);
-    let mut gathered = Gathered::new(alloc, key_of(sources), before, most_of(form));
-    put_errors(alloc, sources, 0, false, &mut gathered)?;
-    let mut reports = gathered.into_reports();
-    put_unshared(alloc, sources, &mut reports)?;
-    let mut reports = sorted(reports)?;
-    if reports.is_empty() {
-        put_told(alloc, told, &mut reports)?;
-    }
-    Ok(reports)
-}
-
-/// Answers the errors of a front, each once, given its text and the first of them.
-fn front_errors<'a>(
-    alloc: Global,
-    front: Front<'a>,
-    before: Vec<u8>,
-    told: Told<'a>,
-    form: Form,
-) -> Result<Vec<Report>, AllocError>
-    ensures { IfOk result (λ reports. AreFrontErrors front.entry reports.items) }
-{
-    let mut texts = Vec::new(alloc);
-    texts.push(before)?;
-    let lines = lines_of(alloc, &texts)?;
-    let sources = Sources {
-        front,
-        before: 0,
-        files: &[],
-        texts: &texts,
-        lines: &lines,
-    };
-    let all = all_of_front(alloc, &sources, told, form)?;
-    let once = without_repeats(alloc, key_of(&sources), front_lines(front), all)?;
-    Ok(once)
 }
 
 /// Builds sources after a front, writes nothing, and answers their errors, in the order of the sources and their lines; or if there are none,

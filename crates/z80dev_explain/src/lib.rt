@@ -7,6 +7,7 @@
 mod adapting;
 mod errors;
 mod explaining;
+mod front;
 mod gathering;
 mod shared;
 mod summing;

@@ -1,10 +1,8 @@
 //! Reports the errors of shared files.
 
-ghost use Rattle.std.specs.Prelude.{◌<◌, OnOk, length};
-
 use asm_module::{SourceLine, read_source};
 use error_messages::Note;
-use report_texts::{Report, Severity, Told, is_shared};
+use report_texts::{Report, Severity, is_shared};
 use std::alloc::{AllocError, Global};
 use written_lines::Sources;
 
@@ -40,23 +38,5 @@ pub(crate) fn put_unshared(
             reports.push(unshared(alloc, sources, line.number)?)?;
         }
     }
-    Ok(())
-}
-
-/// Appends the report of the first error of a front, about which nothing else is known.
-pub(crate) fn put_told(
-    alloc: Global,
-    told: Told<'_>,
-    reports: &mut Vec<Report>,
-) -> Result<(), AllocError>
-    ensures { OnOk result (0 < length reports.new.items) }
-{
-    reports.push(Report {
-        severity: Severity::Error,
-        at: None,
-        text: String::from_str(alloc, "the shared files have an error")?,
-        name: format!(in alloc; "{told}")?,
-        notes: Vec::new(alloc),
-    })?;
     Ok(())
 }
