@@ -6,7 +6,7 @@ ghost use Rattle.report_texts.specs.Front.{CountsLines, front_lines};
 ghost use Rattle.zmo_object.specs.Modules.{module_of};
 ghost use Rattle.zmo_object.specs.Rules.{IsModule};
 ghost use Rattle.report_texts.specs.Behind.{IsBehind};
-ghost use Rattle.report_texts.specs.Reports.{is_in_line, is_error, bears_name};
+ghost use Rattle.report_texts.specs.Reports.{bears_name, is_in_line};
 ghost use Rattle.link_errors.specs.Names.{link_name};
 ghost use Rattle.link_errors.specs.Counts.{HasWarnings, warning_count};
 ghost use Rattle.z80dev_explain.specs.Explained.{AreLongs, HasErrorOnce, IsExplained, IsExplainedBehind};
